@@ -1,0 +1,3 @@
+pub mod Notation
+pub mod Refusal
+pub mod Example

@@ -1,0 +1,5 @@
+pub mod Forms
+pub mod Reading
+pub mod Writing
+pub mod Fields
+pub mod Examples
