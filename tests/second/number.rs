@@ -1,0 +1,114 @@
+//! Numbers in groups of seven bits, lowest group first.
+
+use super::slip::Slip;
+
+/// A refusal's number in the table "Numbers handed back".
+pub type Refusal = u32;
+
+/// The bytes end inside a number or before the last field.
+pub const ENDS_EARLY: Refusal = 10;
+/// A number has over 6 groups or is not in its shortest form.
+pub const NOT_SHORTEST: Refusal = 11;
+/// The edition is not 1, or a number is outside its limits.
+pub const OUTSIDE_LIMITS: Refusal = 12;
+
+/// Each number is below this, and each run ends at or below this page.
+pub const NUMBER_LIMIT: u64 = 1 << 36;
+
+/// Set in a byte if another group follows.
+const TOP_BIT: u8 = 0x80;
+
+/// The numbers of a sheet or map, read from left to right.
+pub struct Numbers<'a> {
+    rest: &'a [u8],
+    slip: Slip,
+}
+
+impl<'a> Numbers<'a> {
+    pub fn new(bytes: &'a [u8], slip: Slip) -> Self {
+        Numbers { rest: bytes, slip }
+    }
+
+    /// The next number, or 10, 11 or 12.
+    pub fn read(&mut self) -> Result<u64, Refusal> {
+        let value = self.read_unlimited()?;
+        judge_limit(value, self.slip)?;
+        Ok(value)
+    }
+
+    /// The next number whatever its size, or 10 or 11.
+    pub fn read_unlimited(&mut self) -> Result<u64, Refusal> {
+        let count = group_count(self.rest, self.slip)?;
+        let (groups, rest) = self.rest.split_at(count);
+        let value = value_of(groups, self.slip);
+        if !is_shortest(groups, value, self.slip) {
+            return Err(NOT_SHORTEST);
+        }
+        self.rest = rest;
+        Ok(value)
+    }
+
+    /// Whether all bytes have been read.
+    pub fn at_end(&self) -> bool {
+        self.rest.is_empty()
+    }
+}
+
+/// 12 for a number of 2^36 or more.
+pub fn judge_limit(value: u64, slip: Slip) -> Result<(), Refusal> {
+    let limit = match slip {
+        Slip::LimitOneTooHigh => NUMBER_LIMIT + 1,
+        Slip::LimitOneTooLow => NUMBER_LIMIT - 1,
+        Slip::LimitDropped => u64::MAX,
+        _ => NUMBER_LIMIT,
+    };
+    if value >= limit {
+        return Err(OUTSIDE_LIMITS);
+    }
+    Ok(())
+}
+
+/// How many groups the number at the front has; 11 if over 6, 10 if the bytes end inside it.
+fn group_count(bytes: &[u8], slip: Slip) -> Result<usize, Refusal> {
+    let most = most_groups(slip);
+    if let Some(last) = bytes.iter().take(most).position(|byte| byte & TOP_BIT == 0) {
+        return Ok(last + 1);
+    }
+    let seen_enough = match slip {
+        Slip::SixthGroupTopBitAtEndIs10 => bytes.len() > most,
+        Slip::FiveGroupsAtEndIs11 => bytes.len() >= most - 1,
+        _ => bytes.len() >= most,
+    };
+    Err(if seen_enough {
+        NOT_SHORTEST
+    } else {
+        ENDS_EARLY
+    })
+}
+
+fn most_groups(slip: Slip) -> usize {
+    match slip {
+        Slip::SixthGroupRefused => 5,
+        Slip::SeventhGroupTaken => 7,
+        _ => 6,
+    }
+}
+
+/// A last group of 0 could be left out, unless it is the only one.
+fn is_shortest(groups: &[u8], value: u64, slip: Slip) -> bool {
+    let shortest = groups.len() == 1 || groups.last() != Some(&0);
+    match slip {
+        Slip::LastGroupZeroTaken => true,
+        Slip::SixthGroupZeroTaken => shortest || groups.len() == 6,
+        Slip::OnlyZeroMustBeShortest => shortest || value != 0,
+        _ => shortest,
+    }
+}
+
+fn value_of(groups: &[u8], slip: Slip) -> u64 {
+    let add_group = |higher: u64, byte: &u8| higher << 7 | u64::from(byte & !TOP_BIT);
+    match slip {
+        Slip::HighestGroupFirst => groups.iter().fold(0, add_group),
+        _ => groups.iter().rev().fold(0, add_group),
+    }
+}

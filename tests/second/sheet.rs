@@ -1,0 +1,239 @@
+//! The case sheet: its fields, and its agreement with the two file lengths.
+
+use super::number::{judge_limit, Numbers, Refusal, NUMBER_LIMIT, OUTSIDE_LIMITS};
+use super::slip::Slip;
+
+/// A run's gap, length or end is wrong.
+pub const RUN_WRONG: Refusal = 13;
+/// Bytes follow the last field.
+pub const BYTES_AFTER_LAST_FIELD: Refusal = 14;
+/// The image length is not the sum of the runs.
+pub const IMAGE_LENGTH_WRONG: Refusal = 15;
+/// The pagefile length is not a multiple of 4,096.
+pub const PAGEFILE_LENGTH_WRONG: Refusal = 16;
+
+const PAGE_BYTES: u64 = 4096;
+
+/// Frames that lie in the image one after another.
+#[derive(Clone, Copy)]
+pub struct Run {
+    pub first_frame: u64,
+    pub pages: u64,
+}
+
+impl Run {
+    /// The frame behind the run's last one.
+    fn end(&self) -> u64 {
+        self.first_frame + self.pages
+    }
+}
+
+/// What an accepted sheet says.
+#[derive(Default)]
+pub struct Case {
+    pub directory_page: u64,
+    pub runs: Vec<Run>,
+}
+
+impl Case {
+    fn pages(&self) -> u64 {
+        self.runs.iter().map(|run| run.pages).sum()
+    }
+}
+
+/// The case, or the first fault of the sheet and the two lengths.
+pub fn check_sheet(
+    sheet: &[u8],
+    image_length: u64,
+    pagefile_length: u64,
+    slip: Slip,
+) -> Result<Case, Refusal> {
+    let mut numbers = Numbers::new(sheet, slip);
+    let mut case = Case::default();
+    read_fields(&mut numbers, &mut case, slip)?;
+    let trailing = !numbers.at_end() && slip != Slip::TrailingTaken;
+    let image_wrong = !image_length_agrees(case.pages(), image_length, slip);
+    let pagefile_wrong = !pagefile_length_agrees(pagefile_length, slip);
+    judge_after_fields(trailing, image_wrong, pagefile_wrong, slip)?;
+    Ok(case)
+}
+
+/// The bytes of all runs that stand before the sheet's first fault.
+pub fn run_bytes_read(sheet: &[u8]) -> u64 {
+    let mut numbers = Numbers::new(sheet, Slip::None);
+    let mut case = Case::default();
+    // The runs read before a fault stay in the case.
+    let _ = read_fields(&mut numbers, &mut case, Slip::None);
+    PAGE_BYTES * case.pages()
+}
+
+fn read_fields(numbers: &mut Numbers, case: &mut Case, slip: Slip) -> Result<(), Refusal> {
+    let edition = numbers.read()?;
+    if slip != Slip::EditionJudgedAfterDirectory {
+        judge_edition(edition, slip)?;
+    }
+    case.directory_page = match slip {
+        Slip::DirectoryLimitDropped => numbers.read_unlimited()?,
+        _ => numbers.read()?,
+    };
+    if slip == Slip::EditionJudgedAfterDirectory {
+        judge_edition(edition, slip)?;
+    }
+    let run_count = numbers.read()?;
+    if slip != Slip::CountJudgedAfterRuns {
+        judge_run_count(run_count, slip)?;
+    }
+    read_runs(numbers, run_count, &mut case.runs, slip)?;
+    if slip == Slip::CountJudgedAfterRuns {
+        judge_run_count(run_count, slip)?;
+    }
+    Ok(())
+}
+
+fn judge_edition(edition: u64, slip: Slip) -> Result<(), Refusal> {
+    let known = match slip {
+        Slip::EditionZeroTaken => edition <= 1,
+        Slip::EditionTwoTaken => edition == 1 || edition == 2,
+        _ => edition == 1,
+    };
+    if !known {
+        return Err(OUTSIDE_LIMITS);
+    }
+    Ok(())
+}
+
+fn judge_run_count(run_count: u64, slip: Slip) -> Result<(), Refusal> {
+    let allowed = match slip {
+        Slip::ZeroRunsTaken => 0..=32,
+        Slip::ThirtyTwoRunsRefused => 1..=31,
+        Slip::ThirtyThreeRunsTaken => 1..=33,
+        _ => 1..=32,
+    };
+    if !allowed.contains(&run_count) {
+        return Err(OUTSIDE_LIMITS);
+    }
+    Ok(())
+}
+
+fn read_runs(
+    numbers: &mut Numbers,
+    run_count: u64,
+    runs: &mut Vec<Run>,
+    slip: Slip,
+) -> Result<(), Refusal> {
+    let mut verdicts = Ok(());
+    for _ in 0..run_count {
+        if slip == Slip::MissingRunsTaken && numbers.at_end() && !runs.is_empty() {
+            break;
+        }
+        let before = runs.last().copied();
+        let (gap, pages) = read_gap_and_length(numbers, before, slip)?;
+        let run = Run {
+            first_frame: first_frame(gap, before, slip),
+            pages,
+        };
+        let verdict = judge_run(gap, run, before, slip);
+        if slip == Slip::RunsJudgedAfterLastRun {
+            verdicts = verdicts.and(verdict);
+        } else {
+            verdict?;
+        }
+        runs.push(run);
+    }
+    verdicts
+}
+
+fn read_gap_and_length(
+    numbers: &mut Numbers,
+    before: Option<Run>,
+    slip: Slip,
+) -> Result<(u64, u64), Refusal> {
+    let gap = match slip {
+        Slip::GapLimitJudgedAfterLength => numbers.read_unlimited()?,
+        _ => numbers.read()?,
+    };
+    if slip == Slip::GapZeroJudgedBeforeLength && gap == 0 && before.is_some() {
+        return Err(RUN_WRONG);
+    }
+    if slip == Slip::StartJudgedBeforeLength && first_frame(gap, before, slip) >= NUMBER_LIMIT {
+        return Err(RUN_WRONG);
+    }
+    let pages = numbers.read()?;
+    if slip == Slip::GapLimitJudgedAfterLength {
+        judge_limit(gap, slip)?;
+    }
+    Ok((gap, pages))
+}
+
+/// The gap counts from the end of the run before, the first from 0.
+fn first_frame(gap: u64, before: Option<Run>, slip: Slip) -> u64 {
+    let end_before = before.map_or(0, |run| run.end());
+    match slip {
+        Slip::GapDropped => end_before,
+        Slip::GapFromZero => gap,
+        Slip::GapFromStartOfRunBefore => before.map_or(0, |run| run.first_frame) + gap,
+        _ => end_before + gap,
+    }
+}
+
+/// 13 for a gap of 0 after the first run, a length of 0, or an end past page 2^36.
+fn judge_run(gap: u64, run: Run, before: Option<Run>, slip: Slip) -> Result<(), Refusal> {
+    let gap_wrong = match slip {
+        Slip::GapZeroRefusedFirst => gap == 0,
+        Slip::GapZeroTakenLater => false,
+        _ => gap == 0 && before.is_some(),
+    };
+    let length_wrong = run.pages == 0 && slip != Slip::LengthZeroTaken;
+    let highest_end = match slip {
+        Slip::EndAtTopRefused => NUMBER_LIMIT - 1,
+        Slip::EndPastTopTaken => NUMBER_LIMIT + 1,
+        _ => NUMBER_LIMIT,
+    };
+    if gap_wrong || length_wrong || run.end() > highest_end {
+        return Err(RUN_WRONG);
+    }
+    Ok(())
+}
+
+fn image_length_agrees(pages: u64, image_length: u64, slip: Slip) -> bool {
+    let wanted = PAGE_BYTES * pages;
+    match slip {
+        Slip::ImageLengthRoundedDown => image_length / PAGE_BYTES == pages,
+        Slip::ImageLengthIn32Bits => image_length as u32 == wanted as u32,
+        Slip::LongerImageTaken => image_length >= wanted,
+        Slip::SumIn32Bits => image_length == PAGE_BYTES * u64::from(pages as u32),
+        _ => image_length == wanted,
+    }
+}
+
+fn pagefile_length_agrees(pagefile_length: u64, slip: Slip) -> bool {
+    match slip {
+        Slip::PagefileUnjudged => true,
+        Slip::PagefileHalfPageTaken => pagefile_length % (PAGE_BYTES / 2) == 0,
+        _ => pagefile_length % PAGE_BYTES == 0,
+    }
+}
+
+/// The first of 14, 15 and 16 that holds.
+fn judge_after_fields(
+    trailing: bool,
+    image_wrong: bool,
+    pagefile_wrong: bool,
+    slip: Slip,
+) -> Result<(), Refusal> {
+    let mut faults = [
+        (trailing, BYTES_AFTER_LAST_FIELD),
+        (image_wrong, IMAGE_LENGTH_WRONG),
+        (pagefile_wrong, PAGEFILE_LENGTH_WRONG),
+    ];
+    match slip {
+        Slip::TrailingAfterImageLength => faults.swap(0, 1),
+        Slip::TrailingAfterPagefileLength => faults.rotate_left(1),
+        Slip::PagefileBeforeImage => faults.swap(1, 2),
+        _ => {}
+    }
+    match faults.iter().find(|(holds, _)| *holds) {
+        Some((_, refusal)) => Err(*refusal),
+        None => Ok(()),
+    }
+}
