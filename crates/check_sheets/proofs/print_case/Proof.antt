@@ -1,0 +1,81 @@
+use borrow.Author.Needs.{needs}
+use Prim.Native.Nat.{_≤_, _-_}
+use Rattle.check_sheets.proofs.print_case.Statement.{statement}
+use Rattle.check_sheets.proofs.print_case.Tie as tie
+
+abbrev Inv-loop : tie.InvT-loop
+Inv-loop directory count firsts ends i₀ i = i ≤ 32
+
+abbrev μ-loop : tie.MeasureT-loop
+μ-loop directory count firsts ends i₀ i = 32 - i
+
+print-next-requires : tie.Need-print-next-requires Inv-loop μ-loop
+print-next-requires c κs = search needs
+
+print-next-requires-2 : tie.Need-print-next-requires-2 Inv-loop μ-loop
+print-next-requires-2 c κs = search needs
+
+loop-holds : tie.Need-loop-holds Inv-loop μ-loop
+loop-holds c = search needs
+
+mul-print-next : tie.Need-mul-print-next Inv-loop μ-loop
+mul-print-next c = search needs
+
+array-read-print-next : tie.Need-array-read-print-next Inv-loop μ-loop
+array-read-print-next c = search needs
+
+print-next-requires-3 : tie.Need-print-next-requires-3 Inv-loop μ-loop
+print-next-requires-3 c κs = search needs
+
+mul-wrapping-sub-u64 : tie.Need-mul-wrapping-sub-u64 Inv-loop μ-loop
+mul-wrapping-sub-u64 c = search needs
+
+array-read-wrapping-sub-u64 : tie.Need-array-read-wrapping-sub-u64 Inv-loop μ-loop
+array-read-wrapping-sub-u64 c = search needs
+
+mul-wrapping-sub-u64-2 : tie.Need-mul-wrapping-sub-u64-2 Inv-loop μ-loop
+mul-wrapping-sub-u64-2 c = search needs
+
+array-read-wrapping-sub-u64-2 : tie.Need-array-read-wrapping-sub-u64-2 Inv-loop μ-loop
+array-read-wrapping-sub-u64-2 c = search needs
+
+wrapping-sub-u64-requires : tie.Need-wrapping-sub-u64-requires Inv-loop μ-loop
+wrapping-sub-u64-requires c κs = search needs
+
+print-next-requires-4 : tie.Need-print-next-requires-4 Inv-loop μ-loop
+print-next-requires-4 c κs = search needs
+
+add-i : tie.Need-add-i Inv-loop μ-loop
+add-i c = search needs
+
+loop-less : tie.Need-loop-less Inv-loop μ-loop
+loop-less c = search needs
+
+loop-again : tie.Need-loop-again Inv-loop μ-loop
+loop-again c = search needs
+
+returns : tie.Need-returns Inv-loop μ-loop
+returns c = search needs
+
+pub print-case-spec : {M : Type 1} → statement M
+print-case-spec =
+    tie.close
+    (tie.spec
+    Inv-loop
+    μ-loop
+    print-next-requires
+    print-next-requires-2
+    loop-holds
+    mul-print-next
+    array-read-print-next
+    print-next-requires-3
+    mul-wrapping-sub-u64
+    array-read-wrapping-sub-u64
+    mul-wrapping-sub-u64-2
+    array-read-wrapping-sub-u64-2
+    wrapping-sub-u64-requires
+    print-next-requires-4
+    add-i
+    loop-less
+    loop-again
+    returns)

@@ -1,0 +1,95 @@
+// Checks sheets from standard input, for the differential test. A record is the image's length, the pagefile's
+// length and the sheet's length, 8 bytes each and little-endian, then the sheet, of at most 1,024 bytes.
+// A refused sheet prints its number; an accepted one 0, the directory page, the number of runs, and each run's first frame and pages.
+use libc::STDIN_FILENO;
+use libc::STDOUT_FILENO;
+use sheet::Checked;
+use sheet::RunTable;
+ghost use Prim.Native.Nat.{_<_, _≤_};
+
+fn main() {
+    // No input has 2^64 - 1 records.
+    let mut turns = u64::MAX;
+    while turns > 0 && check_next() {
+        turns -= 1;
+    }
+}
+
+fn check_next() -> bool {
+    let mut lengths = [0u8; 24];
+    if io::read_full(STDIN_FILENO, &mut lengths) < 24 {
+        return false;
+    }
+    let length = word(&lengths, 16);
+    if 1024 < length {
+        return false;
+    }
+    let n = length as usize;
+    let mut bytes = [0u8; 1024];
+    check_one(word(&lengths, 0), word(&lengths, 8), &mut bytes[..n])
+}
+
+fn check_one(image: u64, pagefile: u64, bytes: &mut [u8]) -> bool {
+    if io::read_full(STDIN_FILENO, bytes) < bytes.len() {
+        return false;
+    }
+    print_checked(sheet::check_sheet(bytes, image, pagefile))
+}
+
+fn print_checked(checked: Checked) -> bool {
+    let outcome = checked.outcome;
+    let number = outcome.number();
+    io::print_decimal(STDOUT_FILENO, number);
+    if number == 0 {
+        let directory = checked.directory;
+        let runs = checked.runs;
+        print_case(directory.number(), runs);
+    }
+    io::write_all(STDOUT_FILENO, b"\n")
+}
+
+fn print_case(directory: u64, runs: RunTable) {
+    print_next(directory);
+    let count = runs.count;
+    print_next(count as u64);
+    let firsts = runs.firsts;
+    let ends = runs.ends;
+    let mut i = 0;
+    while i < 32 {
+        if i < count {
+            print_next(firsts[i]);
+            print_next(std::num::wrapping_sub_u64(ends[i], firsts[i]));
+        }
+        i += 1;
+    }
+}
+
+fn print_next(n: u64) {
+    io::write_all(STDOUT_FILENO, b" ");
+    io::print_decimal(STDOUT_FILENO, n);
+}
+
+fn wide(x: u8) -> u64
+    ensures { λ r. ⌜ r < 256 ⌝ }
+{
+    x as u64
+}
+
+// The 8 bytes from `at`, little-endian.
+fn word(b: &[u8; 24], at: usize) -> u64
+    requires { ⌜ at ≤ 16 ⌝ }
+{
+    wide(b[at])
+        + 256
+            * (wide(b[at + 1])
+                + 256
+                    * (wide(b[at + 2])
+                        + 256
+                            * (wide(b[at + 3])
+                                + 256
+                                    * (wide(b[at + 4])
+                                        + 256
+                                            * (wide(b[at + 5])
+                                                + 256
+                                                    * (wide(b[at + 6]) + 256 * wide(b[at + 7])))))))
+}
