@@ -52,13 +52,13 @@ fn print_case(directory: u64, runs: RunTable) {
     print_next(directory);
     let count = runs.count;
     print_next(count as u64);
-    let firsts = runs.firsts;
-    let ends = runs.ends;
+    let rows = runs.rows;
     let mut i = 0;
     while i < 32 {
         if i < count {
-            print_next(firsts[i]);
-            print_next(std::num::wrapping_sub_u64(ends[i], firsts[i]));
+            let first = rows[3 * i];
+            print_next(first);
+            print_next(std::num::wrapping_sub_u64(rows[3 * i + 1], first));
         }
         i += 1;
     }

@@ -1,6 +1,9 @@
-// What one page table entry says. So far: the three page counts that must not be taken for each other.
+// What one page table entry says, apart from where it lies; and the three page counts that must not be taken for each other.
+use base::Refusal;
 ghost use mathlib.Core.Path.{_≡_};
 ghost use Rattle.entry.specs.Pages.{frame, pagefilePage, virtualPage};
+ghost use Prim.Native.Nat.{_<_, _^_};
+ghost use Rattle.entry.specs.Entry.{row, levelOf, upperOf, validOf, transition, softwareOf, extended, leafOf, prototypeOf};
 
 // A page of physical memory.
 pub struct Frame(u64);
@@ -10,6 +13,162 @@ pub struct PagefilePage(u64);
 
 // A page of the address space: address bits 12-47.
 pub struct VirtualPage(u64);
+
+// A level of the tables: the lowest address bit of its index, the bits of the page that bit 7 of an entry makes
+// (0: none), and whether an entry that is not valid needs a region record.
+pub struct Level {
+    pub low: u64,
+    pub large: u64,
+    pub region: bool,
+}
+
+// Where an entry leads by itself; InFrame has the bits of the page that starts at the frame: 12, 21 or 30.
+pub enum Rest {
+    InFrame(Frame, u64),
+    InPagefile(PagefilePage),
+    ZeroPage,
+    Refuses(Refusal),
+}
+
+// What an entry above the last level says.
+pub enum Upper {
+    Table(Frame),
+    Ends(Rest),
+    UpperNeedsRegion,
+}
+
+// What a last-level entry says; a prototype entry's address is virtual.
+pub enum Leaf {
+    Settled(Rest),
+    Prototype(u64),
+    NeedsRegion,
+}
+
+// The level of a table with so many levels below it.
+pub fn level_at(below: u64) -> Level
+    ensures { λ r. ⌜ r ≡ levelOf below ⌝ }
+{
+    if below == 0 {
+        return level_row(12, 0, false);
+    }
+    if below == 1 {
+        return level_row(21, 21, true);
+    }
+    if below == 2 {
+        return level_row(30, 30, false);
+    }
+    level_row(39, 0, false)
+}
+
+fn level_row(low: u64, large: u64, region: bool) -> Level
+    ensures { λ r. ⌜ r ≡ row low large region ⌝ }
+{
+    Level { low, large, region }
+}
+
+// An entry above the last level.
+pub fn upper_entry(level: Level, e: u64) -> Upper
+    ensures { λ r. ⌜ r ≡ upperOf level e ⌝ }
+{
+    if e % 2 != 1 {
+        if level.region {
+            return Upper::UpperNeedsRegion;
+        }
+        return Upper::Ends(Rest::Refuses(Refusal::UpperEntryNotValid));
+    }
+    if e / 281474976710656 % 16 != 0 {
+        return Upper::Ends(Rest::Refuses(Refusal::FrameTooWide));
+    }
+    let f = Frame(e / 4096 % 68719476736);
+    if e / 128 % 2 == 1 {
+        if level.large != 0 {
+            return Upper::Ends(Rest::InFrame(f, level.large));
+        }
+    }
+    Upper::Table(f)
+}
+
+// A last-level entry.
+pub fn last_entry(e: u64) -> Leaf
+    ensures { λ r. ⌜ r ≡ leafOf e ⌝ }
+{
+    if e % 2 == 1 {
+        return Leaf::Settled(valid_entry(e));
+    }
+    if in_transition(e) {
+        return Leaf::Settled(Rest::InFrame(Frame(e / 4096 % 68719476736), 12));
+    }
+    if e / 1024 % 2 == 1 {
+        let high = e / 65536;
+        if high == 281474976645120 {
+            return Leaf::NeedsRegion;
+        }
+        return Leaf::Prototype(extend(high));
+    }
+    if e == 0 {
+        return Leaf::NeedsRegion;
+    }
+    Leaf::Settled(software_entry(e))
+}
+
+// An entry found at a prototype address.
+pub fn prototype_entry(e: u64) -> Rest
+    ensures { λ r. ⌜ r ≡ prototypeOf e ⌝ }
+{
+    if e % 2 == 1 {
+        return valid_entry(e);
+    }
+    if e / 1024 % 2 == 1 {
+        return Rest::Refuses(Refusal::FileBacked);
+    }
+    if in_transition(e) {
+        return Rest::InFrame(Frame(e / 4096 % 68719476736), 12);
+    }
+    software_entry(e)
+}
+
+fn valid_entry(e: u64) -> Rest
+    ensures { λ r. ⌜ r ≡ validOf e ⌝ }
+{
+    if e / 281474976710656 % 16 != 0 {
+        return Rest::Refuses(Refusal::FrameTooWide);
+    }
+    Rest::InFrame(Frame(e / 4096 % 68719476736), 12)
+}
+
+// Transition set, Prototype clear.
+fn in_transition(e: u64) -> bool
+    ensures { λ r. ⌜ r ≡ transition e ⌝ }
+{
+    if e / 2048 % 2 == 1 {
+        return e / 1024 % 2 != 1;
+    }
+    false
+}
+
+fn software_entry(e: u64) -> Rest
+    ensures { λ r. ⌜ r ≡ softwareOf e ⌝ }
+{
+    let page = e / 4294967296;
+    if page == 0 {
+        return Rest::ZeroPage;
+    }
+    if e / 2 % 16 != 0 {
+        return Rest::Refuses(Refusal::OtherPagefile);
+    }
+    Rest::InPagefile(PagefilePage(page))
+}
+
+// 48 bits, extended from their top bit.
+fn extend(high: u64) -> u64
+    requires { ⌜ high < 2 ^ 48 ⌝ }
+    ensures { λ r. ⌜ r ≡ extended high ⌝ }
+{
+    if high / 140737488355328 % 2 == 1 {
+        return high + 18446462598732840960;
+    }
+    high
+}
 
 impl Frame {
     pub fn numbered(n: u64) -> Frame

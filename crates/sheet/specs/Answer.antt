@@ -1,7 +1,7 @@
 -- What reading a sheet finds, as the code hands it back.
-use Prim.Native.Nat.{ℕ, _+_, _*_, _%_}
+use Prim.Native.Nat.{ℕ, _+_, _-_, _*_, _%_}
 use mathlib.Core.Bool.{not}
-use mathlib.Core.List.{List, [], _∷_, map}
+use mathlib.Core.List.{List, [], _∷_}
 use lib.Dec.{eqb}
 use lib.ListN.{length, replicate}
 use lib.Seq.{sets}
@@ -35,26 +35,14 @@ abbrev pub runOf : Read Run → RunRead
 runOf (got r next) = Taken r next
 runOf (bad r) = Wrong r
 
--- numbers at the front of 32 places, 0 behind them
-abbrev pub column : List ℕ → List ℕ
-column xs = sets (replicate 32 0) 0 xs
+-- for each run its first frame, the frame behind its last, and how many frames below it are in no run; `pages` is how many pages stand before it in the image
+abbrev pub rowsFrom : ℕ → List Run → List ℕ
+rowsFrom pages [] = []
+rowsFrom pages (r ∷ rs) = r .first .0 ∷ endOf r ∷ (r .first .0 - pages) ∷ rowsFrom (pages + r .pages) rs
 
-abbrev pub firstOf : Run → ℕ
-firstOf r = r .first .0
-
--- the image page of each run's first frame
-abbrev pub basesFrom : ℕ → List Run → List ℕ
-basesFrom base [] = []
-basesFrom base (r ∷ rs) = base ∷ basesFrom (base + r .pages) rs
-
+-- the rows at the front of 96 places, 0 behind them
 unfoldable pub tableOf : List Run → RunTable
-tableOf rs = record {
-  count = length rs;
-  pages = pagesIn rs;
-  firsts = column (map firstOf rs);
-  ends = column (map endOf rs);
-  bases = column (basesFrom 0 rs);
-}
+tableOf rs = record { count = length rs; pages = pagesIn rs; rows = sets (replicate 96 0) 0 (rowsFrom 0 rs) }
 
 abbrev pub runsOf : Read (List Run) → RunsRead
 runsOf (got rs next) = record { reached = Behind next; runs = tableOf rs }

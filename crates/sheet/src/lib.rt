@@ -14,14 +14,12 @@ pub struct Run {
     pub pages: u64,
 }
 
-// The runs by columns, for the search of a frame: how many, the pages of all, and for each run its first
-// frame, the frame behind its last, and the image page of its first. Places past the last run are 0.
+// The runs as rows of three numbers, for the search of a frame: first frame, the frame behind the last, and
+// how many frames below the run are in no run, so that a frame less these is its image page. Rows past the last run are 0.
 pub struct RunTable {
     pub count: usize,
     pub pages: u64,
-    pub firsts: [u64; 32],
-    pub ends: [u64; 32],
-    pub bases: [u64; 32],
+    pub rows: [u64; 96],
 }
 
 pub enum Outcome {
@@ -133,9 +131,7 @@ fn no_runs() -> RunTable
     RunTable {
         count: 0,
         pages: 0,
-        firsts: [0; 32],
-        ends: [0; 32],
-        bases: [0; 32],
+        rows: [0; 96],
     }
 }
 
@@ -203,9 +199,7 @@ fn read_runs(s: &[u8], from: usize, count: usize) -> RunsRead
     requires { ⌜ count ≤ 32 ⌝ }
     ensures { λ r. ⌜ r ≡ runsOf (runsFrom count 0 0 (now (s .entry)) from) ⌝ }
 {
-    let mut firsts = [0u64; 32];
-    let mut ends = [0u64; 32];
-    let mut bases = [0u64; 32];
+    let mut rows = [0u64; 96];
     let mut at = from;
     let mut i = 0;
     let mut least = 0;
@@ -224,9 +218,9 @@ fn read_runs(s: &[u8], from: usize, count: usize) -> RunsRead
                 let frame = run.first;
                 let first = frame.number();
                 end = first + run.pages;
-                firsts[i] = first;
-                ends[i] = end;
-                bases[i] = pages;
+                rows[3 * i] = first;
+                rows[3 * i + 1] = end;
+                rows[3 * i + 2] = first - pages;
                 pages = pages + run.pages;
                 least = 1;
                 at = next;
@@ -234,13 +228,7 @@ fn read_runs(s: &[u8], from: usize, count: usize) -> RunsRead
             }
         }
     }
-    let runs = RunTable {
-        count,
-        pages,
-        firsts,
-        ends,
-        bases,
-    };
+    let runs = RunTable { count, pages, rows };
     RunsRead {
         reached: Reached::Behind(at),
         runs: runs,

@@ -4,10 +4,10 @@ use Rattle.check_sheets.proofs.print_case.Statement.{statement}
 use Rattle.check_sheets.proofs.print_case.Tie as tie
 
 abbrev Inv-loop : tie.InvT-loop
-Inv-loop directory count firsts ends i₀ i = i ≤ 32
+Inv-loop directory count rows i₀ i = i ≤ 32
 
 abbrev μ-loop : tie.MeasureT-loop
-μ-loop directory count firsts ends i₀ i = 32 - i
+μ-loop directory count rows i₀ i = 32 - i
 
 print-next-requires : tie.Need-print-next-requires Inv-loop μ-loop
 print-next-requires c κs = search needs
@@ -18,11 +18,14 @@ print-next-requires-2 c κs = search needs
 loop-holds : tie.Need-loop-holds Inv-loop μ-loop
 loop-holds c = search needs
 
-mul-print-next : tie.Need-mul-print-next Inv-loop μ-loop
-mul-print-next c = search needs
+mul-first : tie.Need-mul-first Inv-loop μ-loop
+mul-first c = search needs
 
-array-read-print-next : tie.Need-array-read-print-next Inv-loop μ-loop
-array-read-print-next c = search needs
+mul-first-2 : tie.Need-mul-first-2 Inv-loop μ-loop
+mul-first-2 c = search needs
+
+array-read-first : tie.Need-array-read-first Inv-loop μ-loop
+array-read-first c = search needs
 
 print-next-requires-3 : tie.Need-print-next-requires-3 Inv-loop μ-loop
 print-next-requires-3 c κs = search needs
@@ -30,14 +33,14 @@ print-next-requires-3 c κs = search needs
 mul-wrapping-sub-u64 : tie.Need-mul-wrapping-sub-u64 Inv-loop μ-loop
 mul-wrapping-sub-u64 c = search needs
 
-array-read-wrapping-sub-u64 : tie.Need-array-read-wrapping-sub-u64 Inv-loop μ-loop
-array-read-wrapping-sub-u64 c = search needs
+add-wrapping-sub-u64 : tie.Need-add-wrapping-sub-u64 Inv-loop μ-loop
+add-wrapping-sub-u64 c = search needs
 
 mul-wrapping-sub-u64-2 : tie.Need-mul-wrapping-sub-u64-2 Inv-loop μ-loop
 mul-wrapping-sub-u64-2 c = search needs
 
-array-read-wrapping-sub-u64-2 : tie.Need-array-read-wrapping-sub-u64-2 Inv-loop μ-loop
-array-read-wrapping-sub-u64-2 c = search needs
+array-read-wrapping-sub-u64 : tie.Need-array-read-wrapping-sub-u64 Inv-loop μ-loop
+array-read-wrapping-sub-u64 c = search needs
 
 wrapping-sub-u64-requires : tie.Need-wrapping-sub-u64-requires Inv-loop μ-loop
 wrapping-sub-u64-requires c κs = search needs
@@ -66,13 +69,14 @@ print-case-spec =
     print-next-requires
     print-next-requires-2
     loop-holds
-    mul-print-next
-    array-read-print-next
+    mul-first
+    mul-first-2
+    array-read-first
     print-next-requires-3
     mul-wrapping-sub-u64
-    array-read-wrapping-sub-u64
+    add-wrapping-sub-u64
     mul-wrapping-sub-u64-2
-    array-read-wrapping-sub-u64-2
+    array-read-wrapping-sub-u64
     wrapping-sub-u64-requires
     print-next-requires-4
     add-i

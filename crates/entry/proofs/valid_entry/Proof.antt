@@ -1,0 +1,14 @@
+use borrow.Author.Needs.{needs}
+use borrow.Author.Tests.{eq-eqb, ne-eqb}
+use Rattle.base.specs.Notation.{bits}
+use Rattle.entry.proofs.valid_entry.Statement.{statement}
+use Rattle.entry.proofs.valid_entry.Tie as tie
+
+returns : tie.Need-returns
+returns c = rw (ne-eqb (bits (c .before .args .e) 48 51) 0 (c .if1 .taken))
+
+returns-2 : tie.Need-returns-2
+returns-2 c = rw (eq-eqb (bits (c .before .args .e) 48 51) 0 (c .if1 .left))
+
+pub valid-entry-spec : {M : Type 1} → statement M
+valid-entry-spec = tie.close (tie.spec returns returns-2)
