@@ -1,5 +1,7 @@
 //! The sheets and file lengths on which two sheet readers are compared.
 
+use crate::groups::{in_groups, sheet_of, shortest};
+use crate::random::Xorshift;
 use crate::second::number::NUMBER_LIMIT;
 use crate::second::sheet::run_bytes_read;
 
@@ -122,32 +124,6 @@ fn chosen_bytes(prefix: &[u8], length: u32, mut which: usize) -> Vec<u8> {
         which /= CHOSEN_BYTES.len();
     }
     sheet
-}
-
-/// A number in its shortest form.
-fn shortest(value: u64) -> Vec<u8> {
-    let mut groups = 1;
-    while value >> (7 * groups) != 0 {
-        groups += 1;
-    }
-    in_groups(value, groups)
-}
-
-/// A number in exactly so many groups.
-fn in_groups(value: u64, groups: u32) -> Vec<u8> {
-    let byte = |group: u32| {
-        let bits = (value >> (7 * group)) as u8 & 0x7F;
-        if group + 1 < groups {
-            bits | 0x80
-        } else {
-            bits
-        }
-    };
-    (0..groups).map(byte).collect()
-}
-
-fn sheet_of(fields: &[u64]) -> Vec<u8> {
-    fields.iter().flat_map(|field| shortest(*field)).collect()
 }
 
 /// Each form below in the place of each field, the sheet ending there or at any later byte.
@@ -369,29 +345,7 @@ fn changed_sheets(records: &mut Records, how_many: usize) {
     }
 }
 
-/// Pseudo-random numbers, the same at each run.
-struct Xorshift {
-    state: u64,
-}
-
 impl Xorshift {
-    fn next(&mut self) -> u64 {
-        self.state ^= self.state << 13;
-        self.state ^= self.state >> 7;
-        self.state ^= self.state << 17;
-        self.state
-    }
-
-    fn below(&mut self, limit: u64) -> u64 {
-        self.next() % limit
-    }
-
-    /// A number of at most so many bits, each width equally likely.
-    fn up_to_bits(&mut self, widest: u64) -> u64 {
-        let width = self.below(widest + 1);
-        self.next() & ((1 << width) - 1)
-    }
-
     /// A good sheet with so many runs, gaps and lengths of about so many bits at most.
     fn sheet(&mut self, run_count: u64, widest: u64) -> Vec<u8> {
         let mut fields = vec![1, self.up_to_bits(36), run_count];

@@ -1,5 +1,10 @@
 //! Compares a program's answers for case sheets with those of the second reader.
 
+mod groups;
+mod print;
+mod random;
+// Each test uses its own part of the second reader.
+#[allow(dead_code)]
 mod second {
     pub mod number;
     pub mod sheet;
@@ -7,6 +12,7 @@ mod second {
 }
 mod sheet_cases;
 
+use print::{hex, with_commas};
 use second::number::Refusal;
 use second::sheet::{check_sheet, Case};
 use second::slip::{self, Slip, SHEET_SLIPS};
@@ -207,15 +213,10 @@ fn line_of(answer: &Result<Case, Refusal>) -> String {
 }
 
 fn differing_case(record: &Record, line: &[u8], wanted: &str) -> String {
-    let hex: Vec<String> = record
-        .sheet
-        .iter()
-        .map(|byte| format!("{:02X}", byte))
-        .collect();
     let line = &line[..line.len().min(MOST_LINE_BYTES)];
     format!(
         "sheet [{}] image length 0x{:X} pagefile length 0x{:X}\n{}\n{}",
-        hex.join(" "),
+        hex(record.sheet),
         record.image_length,
         record.pagefile_length,
         format_args!("  program:       \"{}\"", line.escape_ascii()),
@@ -278,16 +279,4 @@ fn reasons_to_fail(comparison: &Comparison, status: ExitStatus) -> Vec<String> {
         }
     }
     reasons
-}
-
-fn with_commas(number: u64) -> String {
-    let digits = number.to_string();
-    let mut text = String::new();
-    for (place, digit) in digits.chars().enumerate() {
-        if place > 0 && (digits.len() - place) % 3 == 0 {
-            text.push(',');
-        }
-        text.push(digit);
-    }
-    text
 }

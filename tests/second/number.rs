@@ -68,6 +68,16 @@ pub fn judge_limit(value: u64, slip: Slip) -> Result<(), Refusal> {
     Ok(())
 }
 
+/// Appends a number in its shortest form.
+pub fn append(value: u64, bytes: &mut Vec<u8>) {
+    let mut rest = value;
+    while rest > u64::from(!TOP_BIT) {
+        bytes.push(rest as u8 | TOP_BIT);
+        rest >>= 7;
+    }
+    bytes.push(rest as u8);
+}
+
 /// How many groups the number at the front has; 11 if over 6, 10 if the bytes end inside it.
 fn group_count(bytes: &[u8], slip: Slip) -> Result<usize, Refusal> {
     let most = most_groups(slip);

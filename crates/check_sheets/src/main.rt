@@ -5,7 +5,6 @@ use libc::STDIN_FILENO;
 use libc::STDOUT_FILENO;
 use sheet::Checked;
 use sheet::RunTable;
-ghost use Prim.Native.Nat.{_<_, _≤_};
 
 fn main() {
     // No input has 2^64 - 1 records.
@@ -20,13 +19,17 @@ fn check_next() -> bool {
     if io::read_full(STDIN_FILENO, &mut lengths) < 24 {
         return false;
     }
-    let length = word(&lengths, 16);
+    let length = words::word_at(&lengths, 16);
     if 1024 < length {
         return false;
     }
     let n = length as usize;
     let mut bytes = [0u8; 1024];
-    check_one(word(&lengths, 0), word(&lengths, 8), &mut bytes[..n])
+    check_one(
+        words::word_at(&lengths, 0),
+        words::word_at(&lengths, 8),
+        &mut bytes[..n],
+    )
 }
 
 fn check_one(image: u64, pagefile: u64, bytes: &mut [u8]) -> bool {
@@ -67,29 +70,4 @@ fn print_case(directory: u64, runs: RunTable) {
 fn print_next(n: u64) {
     io::write_all(STDOUT_FILENO, b" ");
     io::print_decimal(STDOUT_FILENO, n);
-}
-
-fn wide(x: u8) -> u64
-    ensures { λ r. ⌜ r < 256 ⌝ }
-{
-    x as u64
-}
-
-// The 8 bytes from `at`, little-endian.
-fn word(b: &[u8; 24], at: usize) -> u64
-    requires { ⌜ at ≤ 16 ⌝ }
-{
-    wide(b[at])
-        + 256
-            * (wide(b[at + 1])
-                + 256
-                    * (wide(b[at + 2])
-                        + 256
-                            * (wide(b[at + 3])
-                                + 256
-                                    * (wide(b[at + 4])
-                                        + 256
-                                            * (wide(b[at + 5])
-                                                + 256
-                                                    * (wide(b[at + 6]) + 256 * wide(b[at + 7])))))))
 }

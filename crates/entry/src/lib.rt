@@ -14,17 +14,24 @@ pub struct PagefilePage(u64);
 // A page of the address space: address bits 12-47.
 pub struct VirtualPage(u64);
 
-// A level of the tables: the lowest address bit of its index, the bits of the page that bit 7 of an entry makes
-// (0: none), and whether an entry that is not valid needs a region record.
+// The page that an entry maps: 4 KiB, 2 MiB, 1 GiB.
+pub enum PageSize {
+    Page4K,
+    Page2M,
+    Page1G,
+}
+
+// A level of the tables: the lowest address bit of its index, the page that bit 7 of an entry makes (Page4K: the bit
+// says nothing), and whether an entry that is not valid needs a region record.
 pub struct Level {
     pub low: u64,
-    pub large: u64,
+    pub large: PageSize,
     pub region: bool,
 }
 
-// Where an entry leads by itself; InFrame has the bits of the page that starts at the frame: 12, 21 or 30.
+// Where an entry leads by itself.
 pub enum Rest {
-    InFrame(Frame, u64),
+    InFrame(Frame, PageSize),
     InPagefile(PagefilePage),
     ZeroPage,
     Refuses(Refusal),
@@ -49,18 +56,18 @@ pub fn level_at(below: u64) -> Level
     ensures { λ r. ⌜ r ≡ levelOf below ⌝ }
 {
     if below == 0 {
-        return level_row(12, 0, false);
+        return level_row(12, PageSize::Page4K, false);
     }
     if below == 1 {
-        return level_row(21, 21, true);
+        return level_row(21, PageSize::Page2M, true);
     }
     if below == 2 {
-        return level_row(30, 30, false);
+        return level_row(30, PageSize::Page1G, false);
     }
-    level_row(39, 0, false)
+    level_row(39, PageSize::Page4K, false)
 }
 
-fn level_row(low: u64, large: u64, region: bool) -> Level
+fn level_row(low: u64, large: PageSize, region: bool) -> Level
     ensures { λ r. ⌜ r ≡ row low large region ⌝ }
 {
     Level { low, large, region }
@@ -80,12 +87,15 @@ pub fn upper_entry(level: Level, e: u64) -> Upper
         return Upper::Ends(Rest::Refuses(Refusal::FrameTooWide));
     }
     let f = Frame(e / 4096 % 68719476736);
-    if e / 128 % 2 == 1 {
-        if level.large != 0 {
-            return Upper::Ends(Rest::InFrame(f, level.large));
-        }
+    if e / 128 % 2 != 1 {
+        return Upper::Table(f);
     }
-    Upper::Table(f)
+    let large = level.large;
+    match large {
+        PageSize::Page4K => Upper::Table(f),
+        PageSize::Page2M => Upper::Ends(Rest::InFrame(f, PageSize::Page2M)),
+        PageSize::Page1G => Upper::Ends(Rest::InFrame(f, PageSize::Page1G)),
+    }
 }
 
 // A last-level entry.
@@ -96,7 +106,7 @@ pub fn last_entry(e: u64) -> Leaf
         return Leaf::Settled(valid_entry(e));
     }
     if in_transition(e) {
-        return Leaf::Settled(Rest::InFrame(Frame(e / 4096 % 68719476736), 12));
+        return Leaf::Settled(Rest::InFrame(Frame(e / 4096 % 68719476736), PageSize::Page4K));
     }
     if e / 1024 % 2 == 1 {
         let high = e / 65536;
@@ -122,7 +132,7 @@ pub fn prototype_entry(e: u64) -> Rest
         return Rest::Refuses(Refusal::FileBacked);
     }
     if in_transition(e) {
-        return Rest::InFrame(Frame(e / 4096 % 68719476736), 12);
+        return Rest::InFrame(Frame(e / 4096 % 68719476736), PageSize::Page4K);
     }
     software_entry(e)
 }
@@ -133,7 +143,7 @@ fn valid_entry(e: u64) -> Rest
     if e / 281474976710656 % 16 != 0 {
         return Rest::Refuses(Refusal::FrameTooWide);
     }
-    Rest::InFrame(Frame(e / 4096 % 68719476736), 12)
+    Rest::InFrame(Frame(e / 4096 % 68719476736), PageSize::Page4K)
 }
 
 // Transition set, Prototype clear.

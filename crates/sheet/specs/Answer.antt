@@ -1,5 +1,6 @@
 -- What reading a sheet finds, as the code hands it back.
-use Prim.Native.Nat.{ℕ, _+_, _-_, _*_, _%_}
+use mathlib.Core.Path.{_≡_}
+use Prim.Native.Nat.{ℕ, _+_, _-_, _*_, _%_, _≤_}
 use mathlib.Core.Bool.{not}
 use mathlib.Core.List.{List, [], _∷_}
 use lib.Dec.{eqb}
@@ -43,6 +44,11 @@ rowsFrom pages (r ∷ rs) = r .first .0 ∷ endOf r ∷ (r .first .0 - pages) �
 -- the rows at the front of 96 places, 0 behind them
 unfoldable pub tableOf : List Run → RunTable
 tableOf rs = record { count = length rs; pages = pagesIn rs; rows = sets (replicate 96 0) 0 (rowsFrom 0 rs) }
+
+-- three numbers a run, and never more than the table has
+pub record RowNumbers (count r : ℕ) : Type 0 where
+  pub within : r ≤ 96
+  pub exact : count ≤ 32 → r ≡ 3 * count
 
 abbrev pub runsOf : Read (List Run) → RunsRead
 runsOf (got rs next) = record { reached = Behind next; runs = tableOf rs }

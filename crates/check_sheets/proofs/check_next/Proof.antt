@@ -1,6 +1,5 @@
 use lib.ListN.{length-take, length-replicate}
 use native.Mathlib.Omega.{arith}
-use Prim.Native.Nat.{_≤_, _-_}
 use borrow.Author.Needs.{needs}
 use Rattle.check_sheets.proofs.check_next.Statement.{statement}
 use Rattle.check_sheets.proofs.check_next.Tie as tie
@@ -14,17 +13,26 @@ read-full-requires c κs = search needs
 returns : tie.Need-returns
 returns c = search needs
 
-word-requires : tie.Need-word-requires
-word-requires c κs = search needs
+slice-aggregate-word-at : tie.Need-slice-aggregate-word-at
+slice-aggregate-word-at c = search needs
+
+word-at-requires : tie.Need-word-at-requires
+word-at-requires c κs = search needs
 
 returns-2 : tie.Need-returns-2
 returns-2 c = search needs
 
-word-requires-2 : tie.Need-word-requires-2
-word-requires-2 c κs = search needs
+slice-aggregate-word-at-2 : tie.Need-slice-aggregate-word-at-2
+slice-aggregate-word-at-2 c = search needs
 
-word-requires-3 : tie.Need-word-requires-3
-word-requires-3 c κs = search needs
+word-at-requires-2 : tie.Need-word-at-requires-2
+word-at-requires-2 c κs = search needs
+
+slice-aggregate-word-at-3 : tie.Need-slice-aggregate-word-at-3
+slice-aggregate-word-at-3 c = search needs
+
+word-at-requires-3 : tie.Need-word-at-requires-3
+word-at-requires-3 c κs = search needs
 
 array-borrow-prefix-bytes : tie.Need-array-borrow-prefix-bytes
 array-borrow-prefix-bytes c = search needs
@@ -45,10 +53,13 @@ check-next-spec =
     slice-aggregate-read-full
     read-full-requires
     returns
-    word-requires
+    slice-aggregate-word-at
+    word-at-requires
     returns-2
-    word-requires-2
-    word-requires-3
+    slice-aggregate-word-at-2
+    word-at-requires-2
+    slice-aggregate-word-at-3
+    word-at-requires-3
     array-borrow-prefix-bytes
     slice-aggregate-check-one
     check-one-requires

@@ -1,0 +1,38 @@
+// The exported calls: each hands on the call of the same meaning, with its whole contract.
+use address::Answer;
+use address::Part;
+use reading::BytesRead;
+ghost use mathlib.Core.Path.{_≡_};
+ghost use Rattle.address.specs.Address.{AddressAnswer};
+ghost use Rattle.address.specs.Page.{PageAnswer, partBytes, pageBytes};
+ghost use Rattle.reading.specs.Read.{ReadAnswer};
+
+#[no_mangle]
+pub extern "C" fn glint_resolve(sheet: &[u8], image: &[u8], pagefile: &[u8], address: u64) -> Answer
+    ensures { λ r. ⌜ AddressAnswer (now (sheet .entry)) (now (image .entry)) (now (pagefile .entry)) address r ⌝ }
+{
+    address::resolve_address(sheet, image, pagefile, address)
+}
+
+// The page call's part: the bytes there are what `page_of` returns.
+#[no_mangle]
+pub extern "C" fn glint_page(sheet: &[u8], image: &[u8], pagefile: &[u8], address: u64) -> Part
+    ensures part { λ r. ⌜ PageAnswer (now (sheet .entry)) (now (image .entry)) (now (pagefile .entry)) address r ⌝ }
+    ensures bytes { λ r. ⌜ partBytes (now (image .entry)) (now (pagefile .entry)) r ≡ pageBytes (now (sheet .entry)) (now (image .entry)) (now (pagefile .entry)) address ⌝ }
+{
+    address::page_part(sheet, image, pagefile, address)
+}
+
+#[no_mangle]
+pub extern "C" fn glint_read(
+    sheet: &[u8],
+    image: &[u8],
+    pagefile: &[u8],
+    address: u64,
+    n: u64,
+    out: &mut [u8],
+) -> BytesRead
+    ensures { λ r. ⌜ ReadAnswer (now (sheet .entry)) (now (image .entry)) (now (pagefile .entry)) address n (now (out .entry)) r (now (out .exit)) ⌝ }
+{
+    reading::read_bytes(sheet, image, pagefile, address, n, out)
+}

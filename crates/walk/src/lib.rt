@@ -1,0 +1,349 @@
+// From an address of a case to a place in the image or the pagefile.
+use base::Refusal;
+use entry::Frame;
+use entry::Leaf;
+use entry::PageSize;
+use entry::PagefilePage;
+use entry::Rest;
+use entry::Upper;
+ghost use mathlib.Core.Path.{_≡_};
+ghost use Prim.Native.Nat.{_-_, _/_, _%_, _^_, _≤_, _<_};
+ghost use lib.ListN.{length};
+ghost use Rattle.entry.specs.Entry.{levelOf};
+ghost use Rattle.walk.specs.Walk.{frameIn, inPage, pagefilePlace, wordOf, reachable, resolveOf};
+ghost use Rattle.walk.specs.Rows.{pageInRows, guarded, worldIn, entryRead, Descends, noTable, Settles, WordInside, refusedPlace, prototypeStep, resolvedOf};
+
+// The image page of a frame.
+pub enum Found {
+    Page(u64),
+    Absent,
+}
+
+// Where an address leads.
+pub enum Place {
+    Image(u64),
+    Pagefile(u64),
+    Zeros,
+    Refused(Refusal),
+}
+
+// The entry for an address in a table, if the table's frame is in a run.
+pub enum EntryRead {
+    Entry(u64),
+    NoTable,
+}
+
+// Where the tables lead, and how many entries were read.
+pub struct Descent {
+    pub leaf: Leaf,
+    pub entries: u64,
+}
+
+// Where an address leads, and how many entries were read.
+pub struct Resolved {
+    pub place: Place,
+    pub entries: u64,
+}
+
+// The image page of a frame: the first row that has it.
+fn find_page(rows: &[u64], f: Frame) -> Found
+    ensures { λ r. ⌜ r ≡ pageInRows (now (rows .entry)) f ⌝ }
+{
+    let n = f.number();
+    let mut i = 0;
+    while i + 2 < rows.len() {
+        if rows[i] <= n {
+            if n < rows[i + 1] {
+                let skipped = rows[i + 2];
+                return Found::Page(less(n, skipped));
+            }
+        }
+        i += 3;
+    }
+    Found::Absent
+}
+
+fn less(n: u64, m: u64) -> u64
+    ensures { λ r. ⌜ r ≡ n - m ⌝ }
+{
+    if m <= n { n - m } else { 0 }
+}
+
+// The image page of a frame, where the image of so many bytes has it.
+fn locate(rows: &[u64], size: u64, f: Frame) -> Found
+    ensures { λ r. ⌜ r ≡ guarded size (pageInRows (now (rows .entry)) f) ⌝ }
+{
+    let found = find_page(rows, f);
+    match found {
+        Found::Absent => Found::Absent,
+        Found::Page(p) => {
+            if p < size / 4096 {
+                return Found::Page(p);
+            }
+            Found::Absent
+        }
+    }
+}
+
+// The index of an address in a table with so many levels below it.
+fn index(below: u64, address: u64) -> u64
+    ensures { λ r. ⌜ (r ≡ address / 2 ^ levelOf below .low % 512) × (r < 512) ⌝ }
+{
+    if below == 0 {
+        return address / 4096 % 512;
+    }
+    if below == 1 {
+        return address / 2097152 % 512;
+    }
+    if below == 2 {
+        return address / 1073741824 % 512;
+    }
+    address / 549755813888 % 512
+}
+
+// The frame of an address in a page that starts at a frame.
+fn frame_in(f: Frame, size: PageSize, address: u64) -> Frame
+    ensures { λ r. ⌜ r ≡ frameIn f size address ⌝ }
+{
+    let n = f.number();
+    match size {
+        PageSize::Page4K => f,
+        PageSize::Page2M => Frame::numbered(n / 512 * 512 + address / 4096 % 512),
+        PageSize::Page1G => Frame::numbered(n / 262144 * 262144 + address / 4096 % 262144),
+    }
+}
+
+// The entry for an address in a table with so many levels below it.
+fn table_entry(rows: &[u64], image: &[u8], table: Frame, below: u64, address: u64) -> EntryRead
+    ensures { λ r. ⌜ r ≡ entryRead (now (image .entry)) (levelOf below) address (guarded (length (now (image .entry))) (pageInRows (now (rows .entry)) table)) ⌝ }
+{
+    let size = image.len() as u64;
+    let found = locate(rows, size, table);
+    match found {
+        Found::Absent => EntryRead::NoTable,
+        Found::Page(p) => {
+            let at = p * 4096 + 8 * index(below, address);
+            EntryRead::Entry(words::word_at(image, at))
+        }
+    }
+}
+
+// Down the four levels.
+fn descend(rows: &[u64], image: &[u8], directory: Frame, address: u64) -> Descent
+    ensures { λ r. ⌜ Descends (now (rows .entry)) (now (image .entry)) directory address r ⌝ }
+{
+    let mut table = directory;
+    let mut below = 3;
+    let mut entries = 0;
+    while 0 < below {
+        match table_entry(rows, image, table, below, address) {
+            EntryRead::NoTable => {
+                return no_table(entries);
+            }
+            EntryRead::Entry(e) => {
+                entries += 1;
+                match entry::upper_entry(entry::level_at(below), e) {
+                    Upper::UpperNeedsRegion => {
+                        return Descent {
+                            leaf: Leaf::NeedsRegion,
+                            entries,
+                        };
+                    }
+                    Upper::Ends(rest) => {
+                        return Descent {
+                            leaf: Leaf::Settled(rest),
+                            entries,
+                        };
+                    }
+                    Upper::Table(f) => {
+                        table = f;
+                        below -= 1;
+                    }
+                }
+            }
+        }
+    }
+    match table_entry(rows, image, table, 0, address) {
+        EntryRead::NoTable => no_table(entries),
+        EntryRead::Entry(e) => {
+            let leaf = entry::last_entry(e);
+            Descent {
+                leaf,
+                entries: entries + 1,
+            }
+        }
+    }
+}
+
+fn no_table(entries: u64) -> Descent
+    ensures { λ r. ⌜ r ≡ noTable entries ⌝ }
+{
+    Descent {
+        leaf: Leaf::Settled(Rest::Refuses(Refusal::FrameInNoRun)),
+        entries,
+    }
+}
+
+// The place of an address in a frame.
+fn in_frame(rows: &[u64], image: &[u8], f: Frame, address: u64) -> Place
+    ensures { λ r. ⌜ r ≡ inPage address (guarded (length (now (image .entry))) (pageInRows (now (rows .entry)) f)) ⌝ }
+{
+    let size = image.len() as u64;
+    let found = locate(rows, size, f);
+    match found {
+        Found::Absent => Place::Refused(Refusal::FrameInNoRun),
+        Found::Page(p) => Place::Image(p * 4096 + address % 4096),
+    }
+}
+
+// The place of an address in a page of the pagefile.
+fn in_pagefile(pagefile: &[u8], page: PagefilePage, address: u64) -> Place
+    ensures { λ r. ⌜ r ≡ pagefilePlace (length (now (pagefile .entry))) page address ⌝ }
+{
+    let size = pagefile.len() as u64;
+    let p = page.number();
+    if p < size / 4096 {
+        return Place::Pagefile(p * 4096 + address % 4096);
+    }
+    Place::Refused(Refusal::PastPagefile)
+}
+
+// Where an entry leads by itself, for an address.
+fn settle(rows: &[u64], image: &[u8], pagefile: &[u8], address: u64, rest: Rest) -> Place
+    ensures { λ r. ⌜ Settles (now (rows .entry)) (now (image .entry)) (now (pagefile .entry)) address rest r ⌝ }
+{
+    match rest {
+        Rest::InFrame(f, size) => in_frame(rows, image, frame_in(f, size, address), address),
+        Rest::InPagefile(p) => in_pagefile(pagefile, p, address),
+        Rest::ZeroPage => Place::Zeros,
+        Rest::Refuses(r) => Place::Refused(r),
+    }
+}
+
+// Is an address canonical: bits 47 to 63 equal?
+fn is_canonical(address: u64) -> bool
+    ensures { λ r. ⌜ r ≡ reachable address ⌝ }
+{
+    let high = address / 140737488355328;
+    if high == 0 {
+        return true;
+    }
+    high == 131071
+}
+
+// The word at a place, 0 in a page of zeros.
+fn word_in(image: &[u8], pagefile: &[u8], place: Place) -> u64
+    requires { ⌜ WordInside (now image) (now pagefile) place ⌝ }
+    ensures { λ r. ⌜ r ≡ wordOf (now (image .entry)) (now (pagefile .entry)) place ⌝ }
+{
+    match place {
+        Place::Image(o) => words::word_at(image, o),
+        Place::Pagefile(o) => words::word_at(pagefile, o),
+        Place::Zeros => 0,
+        Place::Refused(_) => 0,
+    }
+}
+
+fn is_refused(place: Place) -> bool
+    ensures { λ r. ⌜ r ≡ refusedPlace place ⌝ }
+{
+    match place {
+        Place::Image(_) => false,
+        Place::Pagefile(_) => false,
+        Place::Zeros => false,
+        Place::Refused(_) => true,
+    }
+}
+
+// An address, with so many prototype entries left.
+fn resolve(
+    rows: &[u64],
+    image: &[u8],
+    pagefile: &[u8],
+    directory: Frame,
+    address: u64,
+    left: u64,
+) -> Resolved
+    requires { ⌜ left ≤ 3 ⌝ }
+    ensures { λ r. ⌜ r ≡ resolvedOf (resolveOf left (worldIn (now (rows .entry)) directory (now (image .entry)) (now (pagefile .entry))) address) ⌝ }
+{
+    if !is_canonical(address) {
+        return Resolved {
+            place: Place::Refused(Refusal::NotCanonical),
+            entries: 0,
+        };
+    }
+    let d = descend(rows, image, directory, address);
+    let n = d.entries;
+    let leaf = d.leaf;
+    match leaf {
+        Leaf::NeedsRegion => Resolved {
+            place: Place::Refused(Refusal::RegionNeeded),
+            entries: n,
+        },
+        Leaf::Settled(rest) => {
+            let place = settle(rows, image, pagefile, address, rest);
+            Resolved { place, entries: n }
+        }
+        Leaf::Prototype(target) => {
+            let r = prototype(rows, image, pagefile, directory, address, target, left);
+            let place = r.place;
+            Resolved {
+                place,
+                entries: n + r.entries,
+            }
+        }
+    }
+}
+
+// The entry at a prototype address, and where it leads for an address.
+fn prototype(
+    rows: &[u64],
+    image: &[u8],
+    pagefile: &[u8],
+    directory: Frame,
+    address: u64,
+    target: u64,
+    left: u64,
+) -> Resolved
+    requires { ⌜ left ≤ 3 ⌝ }
+    ensures { λ r. ⌜ r ≡ resolvedOf (prototypeStep left (worldIn (now (rows .entry)) directory (now (image .entry)) (now (pagefile .entry))) address target) ⌝ }
+{
+    if target % 8 != 0 {
+        return Resolved {
+            place: Place::Refused(Refusal::PrototypeUnaligned),
+            entries: 0,
+        };
+    }
+    if left == 0 {
+        return Resolved {
+            place: Place::Refused(Refusal::PrototypeChainTooLong),
+            entries: 0,
+        };
+    }
+    let found = resolve(rows, image, pagefile, directory, target, left - 1);
+    let n = found.entries;
+    let at = found.place;
+    if is_refused(at) {
+        return found;
+    }
+    let rest = entry::prototype_entry(word_in(image, pagefile, at));
+    let place = settle(rows, image, pagefile, address, rest);
+    Resolved {
+        place,
+        entries: n + 1,
+    }
+}
+
+// An address of a case whose sheet was read: where it leads, and how many entries were read.
+pub fn resolve_in(
+    rows: &[u64],
+    image: &[u8],
+    pagefile: &[u8],
+    directory: Frame,
+    address: u64,
+) -> Resolved
+    ensures { λ r. ⌜ r ≡ resolvedOf (resolveOf 3 (worldIn (now (rows .entry)) directory (now (image .entry)) (now (pagefile .entry))) address) ⌝ }
+{
+    resolve(rows, image, pagefile, directory, address, 3)
+}

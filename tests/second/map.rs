@@ -1,0 +1,573 @@
+//! Maps: the pages of a range written as extents, and an address looked up in them.
+
+use super::number::{append, Numbers, Refusal, NUMBER_LIMIT, OUTSIDE_LIMITS};
+use super::sheet::BYTES_AFTER_LAST_FIELD;
+use super::slip::Slip;
+use super::walk::{is_canonical, Files, Place, Walk, NOT_CANONICAL, PAGE_BYTES};
+
+/// The map range is wrong.
+const RANGE_WRONG: Refusal = 40;
+/// The address is outside the map.
+const OUTSIDE_MAP: Refusal = 41;
+/// An extent is wrong.
+const EXTENT_WRONG: Refusal = 43;
+/// The map buffer is too short.
+const BUFFER_TOO_SHORT: Refusal = 44;
+
+const EDITION: u64 = 1;
+
+/// The most pages that a range has.
+pub const MOST_PAGES: u64 = 1 << 20;
+/// The pages of one half of the address space.
+pub const HALF_PAGES: u64 = 1 << 35;
+
+const IMAGE: u64 = 1;
+const PAGEFILE: u64 = 2;
+const ZEROS: u64 = 3;
+const FIRST_REFUSAL: u64 = 21;
+const LAST_REFUSAL: u64 = 29;
+
+/// What a map call says; the map itself is in the lent buffer.
+pub struct Written {
+    pub number: u64,
+    pub length: u64,
+}
+
+/// What a lookup says.
+pub struct Found {
+    pub number: u64,
+    pub offset: u64,
+}
+
+/// Neighbour pages with the same code, and for 1 and 2 with file pages in order.
+#[derive(Clone, Copy)]
+pub struct Extent {
+    pub code: u64,
+    pub length: u64,
+    /// The first page in the file, 0 for codes without one.
+    pub first_page: u64,
+}
+
+/// What an accepted map says.
+#[derive(Default)]
+pub struct Map {
+    pub start_page: u64,
+    pub pages: u64,
+    pub extents: Vec<Extent>,
+}
+
+/// The fault in judging where a range ends, if any.
+#[derive(Clone, Copy, PartialEq)]
+enum EndFault {
+    None,
+    HalfCrossed,
+    TopCrossed,
+    HalfEndRefused,
+    TopEndRefused,
+}
+
+/// Writes the map of a range into the front of the buffer, or nothing at all.
+pub fn map(files: Files, start: u64, pages: u64, buffer: &mut [u8], slip: Slip) -> Written {
+    match map_bytes(files, start, pages, slip) {
+        Err(RANGE_WRONG) if slip == Slip::RoomBeforeRange && buffer.is_empty() => {
+            not_written(BUFFER_TOO_SHORT)
+        }
+        Err(refusal) => not_written(refusal),
+        Ok(bytes) => hand_over(&bytes, buffer, slip),
+    }
+}
+
+/// The bytes of the map, whether they fit or not; else the sheet's fault or 40.
+pub fn map_bytes(files: Files, start: u64, pages: u64, slip: Slip) -> Result<Vec<u8>, Refusal> {
+    let range = judge_range(start, pages, slip);
+    if slip == Slip::RangeBeforeSheet {
+        range?;
+    }
+    let judged = match slip {
+        Slip::MapOfBadSheetTaken => files.without_rest(),
+        _ => files,
+    };
+    let mut walk = Walk::start(judged, slip)?;
+    Ok(layout(&mut walk, start, range?, slip))
+}
+
+fn not_written(refusal: Refusal) -> Written {
+    Written {
+        number: u64::from(refusal),
+        length: 0,
+    }
+}
+
+/// The page count of an allowed range, or 40.
+fn judge_range(start: u64, pages: u64, slip: Slip) -> Result<u64, Refusal> {
+    if !is_canonical(start, slip) {
+        return Err(match slip {
+            Slip::NotCanonicalStartIs20 => NOT_CANONICAL,
+            _ => RANGE_WRONG,
+        });
+    }
+    let unit = match slip {
+        Slip::UnalignedStartTaken => 1,
+        Slip::UnalignedStartBy2048Taken => 2048,
+        _ => PAGE_BYTES,
+    };
+    let pages = match slip {
+        Slip::CountIn32Bits => u64::from(pages as u32),
+        _ => pages,
+    };
+    let allowed = match slip {
+        Slip::NoPagesTaken => 0..=MOST_PAGES,
+        Slip::CountLimitOneHigher => 1..=MOST_PAGES + 1,
+        Slip::CountLimitOneLower => 1..=MOST_PAGES - 1,
+        _ => 1..=MOST_PAGES,
+    };
+    let fault = match slip {
+        Slip::HalfCrossed => EndFault::HalfCrossed,
+        Slip::TopCrossed => EndFault::TopCrossed,
+        Slip::LastPageOfHalfRefused => EndFault::HalfEndRefused,
+        Slip::LastPageOfTopRefused => EndFault::TopEndRefused,
+        _ => EndFault::None,
+    };
+    let wrong = start % unit != 0
+        || !allowed.contains(&pages)
+        || leaves_half(page_number(start), pages, fault);
+    if wrong {
+        return Err(RANGE_WRONG);
+    }
+    Ok(pages)
+}
+
+/// Whether so many pages from the first one end past its half.
+fn leaves_half(first: u64, pages: u64, fault: EndFault) -> bool {
+    let end = first + pages;
+    let low = first < HALF_PAGES;
+    match fault {
+        EndFault::HalfCrossed if low => false,
+        EndFault::TopCrossed if !low => false,
+        EndFault::HalfEndRefused if low => end >= HALF_PAGES,
+        EndFault::TopEndRefused if !low => end >= 2 * HALF_PAGES,
+        _ if low => end > HALF_PAGES,
+        _ => end > 2 * HALF_PAGES,
+    }
+}
+
+/// Address bits 12-47.
+fn page_number(address: u64) -> u64 {
+    address << 16 >> 28
+}
+
+/// The first byte's address, bits 48-63 as bit 47.
+fn page_address(page: u64) -> u64 {
+    ((page << 28) as i64 >> 16) as u64
+}
+
+/// Edition, start page, page count and the extents.
+fn layout(walk: &mut Walk, start: u64, pages: u64, slip: Slip) -> Vec<u8> {
+    let first = page_number(start);
+    let written_start = match slip {
+        Slip::StartPageOfWholeAddress => start / PAGE_BYTES,
+        _ => first,
+    };
+    let mut bytes = Vec::new();
+    for field in [EDITION, written_start, pages] {
+        append(field, &mut bytes);
+    }
+    for extent in extents(walk, first, pages, slip) {
+        append(extent.code, &mut bytes);
+        append(extent.length, &mut bytes);
+        if has_page(extent.code) || slip == Slip::FirstPageForZeros && extent.code == ZEROS {
+            append(extent.first_page, &mut bytes);
+        }
+    }
+    bytes
+}
+
+fn has_page(code: u64) -> bool {
+    code == IMAGE || code == PAGEFILE
+}
+
+/// The answers for all pages in order, neighbours joined.
+fn extents(walk: &mut Walk, first: u64, pages: u64, slip: Slip) -> Vec<Extent> {
+    let mut extents: Vec<Extent> = Vec::new();
+    for page in first..first + pages {
+        let address = match slip {
+            Slip::PagesOneByteApart => page_address(first) + (page - first),
+            _ => page_address(page),
+        };
+        let next = extent_of_page(walk.resolve(address), slip);
+        let at_table = page % 512 == 0 && slip == Slip::JoinStopsAtTable;
+        match extents.last_mut() {
+            Some(open) if belongs(open, &next, slip) && !at_table => open.length += 1,
+            _ => extents.push(next),
+        }
+    }
+    spoil(&mut extents, pages, slip);
+    extents
+}
+
+/// The number as code, and the file page of the offset.
+fn extent_of_page(place: Result<Place, Refusal>, slip: Slip) -> Extent {
+    let (code, offset) = match place {
+        Ok(Place::Image(offset)) => (IMAGE, offset),
+        Ok(Place::Pagefile(offset)) => (PAGEFILE, offset),
+        Ok(Place::Zeros) => (ZEROS, 0),
+        Err(refusal) => (u64::from(refusal), 0),
+    };
+    let first_page = match slip {
+        Slip::FilePageAsOffset => offset,
+        _ => offset / PAGE_BYTES,
+    };
+    Extent {
+        code,
+        length: 1,
+        first_page,
+    }
+}
+
+/// Whether the next page belongs to the open extent.
+fn belongs(open: &Extent, next: &Extent, slip: Slip) -> bool {
+    let both_files = has_page(open.code) && has_page(next.code);
+    let both_refused = open.code >= FIRST_REFUSAL && next.code >= FIRST_REFUSAL;
+    let next_page = open.first_page + open.length == next.first_page;
+    let same_code = open.code == next.code;
+    match slip {
+        Slip::NeverJoined => false,
+        Slip::ImageNeverJoined if open.code == IMAGE => false,
+        Slip::PagefileNeverJoined if open.code == PAGEFILE => false,
+        Slip::ZerosNeverJoined if open.code == ZEROS => false,
+        Slip::RefusalsNeverJoined if both_refused => false,
+        Slip::JoinedByCodeAlone => same_code,
+        Slip::JoinedByPageAlone if both_files => next_page,
+        Slip::JoinedToSamePage if both_files && open.first_page == next.first_page => same_code,
+        Slip::JoinedDownwards if both_files && open.first_page == next.first_page + 1 => same_code,
+        Slip::RefusalsJoinedAlike if both_refused => true,
+        _ => same_code && (next_page || !has_page(open.code)),
+    }
+}
+
+/// The faults that change finished extents.
+fn spoil(extents: &mut Vec<Extent>, pages: u64, slip: Slip) {
+    match slip {
+        Slip::FirstExtentOnly if extents.len() > 1 => {
+            extents.truncate(1);
+            extents.push(Extent {
+                code: LAST_REFUSAL,
+                length: pages - extents[0].length,
+                first_page: 0,
+            });
+        }
+        Slip::ExtentOnePageTooLong => extents.iter_mut().for_each(|extent| extent.length += 1),
+        Slip::LastExtentDropped => drop(extents.pop()),
+        Slip::FirstPageOfLast => extents
+            .iter_mut()
+            .for_each(|extent| extent.first_page += extent.length - 1),
+        _ => {}
+    }
+}
+
+/// Writes the map and its length, or only says 44.
+fn hand_over(bytes: &[u8], buffer: &mut [u8], slip: Slip) -> Written {
+    let fits = match slip {
+        Slip::FortyFourAtExactLength => bytes.len() < buffer.len(),
+        Slip::ShortBufferTaken => true,
+        _ => bytes.len() <= buffer.len(),
+    };
+    let held = bytes.len().min(buffer.len());
+    if fits || slip == Slip::WritesBeforeFit {
+        buffer[..held].copy_from_slice(&bytes[..held]);
+    }
+    if fits && slip == Slip::MapClearsRest {
+        buffer[held..].fill(0);
+    }
+    let number = match fits {
+        true => 0,
+        false => u64::from(BUFFER_TOO_SHORT),
+    };
+    let length = match slip {
+        Slip::LengthOnFortyFour => bytes.len(),
+        _ if !fits => 0,
+        Slip::LengthOfMapBuffer => buffer.len(),
+        _ => bytes.len(),
+    };
+    Written {
+        number,
+        length: length as u64,
+    }
+}
+
+/// Number and offset for an address in a map.
+pub fn lookup(bytes: &[u8], address: u64, slip: Slip) -> Found {
+    find(bytes, address, slip).unwrap_or_else(|refusal| Found {
+        number: u64::from(refusal),
+        offset: 0,
+    })
+}
+
+/// The map's own faults, then 20, then 41, then what the extent says.
+fn find(bytes: &[u8], address: u64, slip: Slip) -> Result<Found, Refusal> {
+    if slip == Slip::CanonicalBeforeFaults {
+        judge_canonical(address, slip)?;
+    }
+    let mut map = Map::default();
+    let mut numbers = Numbers::new(bytes, number_slip(slip));
+    let verdict = read_fields(&mut numbers, &mut map, slip);
+    let place = judge_inside(&map, address, slip);
+    if slip == Slip::OutsideBeforeFaults && map.pages > 0 {
+        place?;
+    }
+    if slip == Slip::LookupAnswersBeforeLastByte && is_canonical(address, slip) {
+        let found = place.and_then(|place| answer(&map, place, address, slip));
+        if found.is_ok() {
+            return found;
+        }
+    }
+    verdict?;
+    if slip == Slip::OutsideBeforeCanonical {
+        place?;
+    }
+    judge_canonical(address, slip)?;
+    answer(&map, place?, address, slip)
+}
+
+fn judge_canonical(address: u64, slip: Slip) -> Result<(), Refusal> {
+    if !is_canonical(address, slip) && slip != Slip::NotCanonicalTaken {
+        return Err(NOT_CANONICAL);
+    }
+    Ok(())
+}
+
+/// Which page of the map the address is in, counted from 0, or 41.
+fn judge_inside(map: &Map, address: u64, slip: Slip) -> Result<u64, Refusal> {
+    let page = match slip {
+        Slip::LookupPageIn35Bits => page_number(address) % HALF_PAGES,
+        _ => page_number(address),
+    };
+    let end = map.start_page + map.pages;
+    match slip {
+        Slip::PageBeforeTaken if page + 1 == map.start_page => Ok(0),
+        Slip::PageBehindTaken if page == end && map.pages > 0 => Ok(map.pages - 1),
+        Slip::FirstPageOutside if page == map.start_page => Err(OUTSIDE_MAP),
+        Slip::LastPageOutside if page + 1 == end => Err(OUTSIDE_MAP),
+        _ if (map.start_page..end).contains(&page) => Ok(page - map.start_page),
+        _ => Err(OUTSIDE_MAP),
+    }
+}
+
+/// What the extent of a page says; only slips leave a page without one.
+fn answer(map: &Map, place: u64, address: u64, slip: Slip) -> Result<Found, Refusal> {
+    let mut pages_before = 0;
+    for extent in &map.extents {
+        let place = place - pages_before;
+        let inside = match slip {
+            Slip::LookupTakesExtentBefore => place <= extent.length,
+            _ => place < extent.length,
+        };
+        if inside {
+            return Ok(found_in(extent, place, address, slip));
+        }
+        pages_before += extent.length;
+    }
+    Err(OUTSIDE_MAP)
+}
+
+/// Code and offset for a byte in an extent's page of this number, counted from 0.
+fn found_in(extent: &Extent, page: u64, address: u64, slip: Slip) -> Found {
+    let place = address % PAGE_BYTES;
+    let page = match slip {
+        Slip::LookupForgetsPageInExtent => 0,
+        Slip::LookupCountsPagesFromOne => page + 1,
+        _ => page,
+    };
+    let page_start = PAGE_BYTES * (extent.first_page + page);
+    let offset = match slip {
+        Slip::LookupForgetsPlaceInPage if has_page(extent.code) => page_start,
+        _ if has_page(extent.code) => page_start + place,
+        Slip::LookupKeepsPlaceInZeros if extent.code == ZEROS => place,
+        Slip::LookupKeepsPlaceInRefusal if extent.code != ZEROS => place,
+        _ => 0,
+    };
+    Found {
+        number: extent.code,
+        offset,
+    }
+}
+
+/// What an accepted map says, or its first fault.
+pub fn read_map(bytes: &[u8]) -> Result<Map, Refusal> {
+    let mut map = Map::default();
+    read_fields(&mut Numbers::new(bytes, Slip::None), &mut map, Slip::None)?;
+    Ok(map)
+}
+
+/// The fault in reading numbers that a fault in reading maps stands for.
+fn number_slip(slip: Slip) -> Slip {
+    match slip {
+        Slip::MapLastGroupZeroTaken => Slip::LastGroupZeroTaken,
+        Slip::MapSixthGroupZeroTaken => Slip::SixthGroupZeroTaken,
+        Slip::MapOnlyZeroMustBeShortest => Slip::OnlyZeroMustBeShortest,
+        Slip::MapSixthGroupRefused => Slip::SixthGroupRefused,
+        Slip::MapSeventhGroupTaken => Slip::SeventhGroupTaken,
+        Slip::MapSixthGroupTopBitAtEndIs10 => Slip::SixthGroupTopBitAtEndIs10,
+        Slip::MapFiveGroupsAtEndIs11 => Slip::FiveGroupsAtEndIs11,
+        Slip::MapHighestGroupFirst => Slip::HighestGroupFirst,
+        Slip::MapLimitOneTooHigh => Slip::LimitOneTooHigh,
+        Slip::MapLimitOneTooLow => Slip::LimitOneTooLow,
+        Slip::MapLimitDropped => Slip::LimitDropped,
+        _ => Slip::None,
+    }
+}
+
+/// Fills the map from left to right, up to its first fault.
+fn read_fields(numbers: &mut Numbers, map: &mut Map, slip: Slip) -> Result<(), Refusal> {
+    let edition = numbers.read()?;
+    if slip != Slip::MapEditionJudgedAfterStart {
+        judge_edition(edition, slip)?;
+    }
+    let start_page = numbers.read()?;
+    if slip == Slip::MapEditionJudgedAfterStart {
+        judge_edition(edition, slip)?;
+    }
+    let pages = numbers.read()?;
+    let range = judge_map_range(start_page, pages, slip);
+    if slip != Slip::MapRangeJudgedAfterExtents {
+        range?;
+    }
+    map.start_page = start_page;
+    map.pages = pages;
+    read_extents(numbers, map, slip)?;
+    range?;
+    if !numbers.at_end() && slip != Slip::MapTrailingTaken {
+        return Err(BYTES_AFTER_LAST_FIELD);
+    }
+    Ok(())
+}
+
+fn judge_edition(edition: u64, slip: Slip) -> Result<(), Refusal> {
+    let known = match slip {
+        Slip::MapEditionZeroTaken => edition <= EDITION,
+        Slip::MapEditionTwoTaken => edition == EDITION || edition == 2,
+        _ => edition == EDITION,
+    };
+    if !known {
+        return Err(OUTSIDE_LIMITS);
+    }
+    Ok(())
+}
+
+/// 12 for a page count or a range out of its limits.
+fn judge_map_range(start_page: u64, pages: u64, slip: Slip) -> Result<(), Refusal> {
+    let allowed = match slip {
+        Slip::MapNoPagesTaken => 0..=MOST_PAGES,
+        Slip::MapCountLimitOneHigher => 1..=MOST_PAGES + 1,
+        Slip::MapCountLimitOneLower => 1..=MOST_PAGES - 1,
+        _ => 1..=MOST_PAGES,
+    };
+    let fault = match slip {
+        Slip::MapHalfCrossed => EndFault::HalfCrossed,
+        Slip::MapTopCrossed => EndFault::TopCrossed,
+        Slip::MapLastPageOfHalfRefused => EndFault::HalfEndRefused,
+        Slip::MapLastPageOfTopRefused => EndFault::TopEndRefused,
+        _ => EndFault::None,
+    };
+    if !allowed.contains(&pages) || leaves_half(start_page, pages, fault) {
+        return Err(OUTSIDE_LIMITS);
+    }
+    Ok(())
+}
+
+/// Reads extents until their lengths sum to the page count.
+fn read_extents(numbers: &mut Numbers, map: &mut Map, slip: Slip) -> Result<(), Refusal> {
+    let mut verdicts = Ok(());
+    let mut sum = 0;
+    while sum < map.pages {
+        if slip == Slip::MissingExtentsTaken && numbers.at_end() && sum > 0 {
+            break;
+        }
+        let room = map.pages - sum;
+        let extent = read_extent(numbers, room, slip)?;
+        let verdict = judge_extent(&extent, map.extents.last(), room, slip);
+        if slip == Slip::ExtentsJudgedAfterLast {
+            verdicts = verdicts.and(verdict);
+        } else {
+            verdict?;
+        }
+        map.extents.push(extent);
+        sum += extent.length;
+    }
+    verdicts
+}
+
+/// The fields of one extent; 43 here only for a code that is not listed.
+fn read_extent(numbers: &mut Numbers, room: u64, slip: Slip) -> Result<Extent, Refusal> {
+    let code = numbers.read()?;
+    let listed = is_listed(code, slip);
+    if !listed && slip != Slip::CodeJudgedWithExtent {
+        return Err(EXTENT_WRONG);
+    }
+    let length = numbers.read()?;
+    let early = match slip {
+        Slip::LengthZeroJudgedBeforePage => length == 0,
+        Slip::SumJudgedBeforePage => length > room,
+        _ => !listed,
+    };
+    if early {
+        return Err(EXTENT_WRONG);
+    }
+    let first_page = match has_page(code) {
+        true => numbers.read()?,
+        false => 0,
+    };
+    Ok(Extent {
+        code,
+        length,
+        first_page,
+    })
+}
+
+fn is_listed(code: u64, slip: Slip) -> bool {
+    match slip {
+        Slip::CodeZeroTaken if code == 0 => true,
+        Slip::CodeFourTaken if code == ZEROS + 1 => true,
+        Slip::CodeTwentyTaken if code == FIRST_REFUSAL - 1 => true,
+        Slip::CodeThirtyTaken if code == LAST_REFUSAL + 1 => true,
+        _ => matches!(code, IMAGE..=ZEROS | FIRST_REFUSAL..=LAST_REFUSAL),
+    }
+}
+
+/// 43 for an extent with all its fields read but a rule broken.
+fn judge_extent(
+    extent: &Extent,
+    before: Option<&Extent>,
+    room: u64,
+    slip: Slip,
+) -> Result<(), Refusal> {
+    let empty = extent.length == 0 && slip != Slip::ExtentLengthZeroTaken;
+    let highest_end = match slip {
+        Slip::TopPageTaken => NUMBER_LIMIT + 1,
+        Slip::TopPageRefused => NUMBER_LIMIT - 1,
+        _ => NUMBER_LIMIT,
+    };
+    let past_top = has_page(extent.code) && extent.first_page + extent.length > highest_end;
+    let past_count = extent.length > room && slip != Slip::SumPastTaken;
+    let unjoined = before.map_or(false, |before| continues(before, extent, slip));
+    if empty || past_top || past_count || unjoined {
+        return Err(EXTENT_WRONG);
+    }
+    Ok(())
+}
+
+/// Whether an extent goes on where the one before it ended, so that both must be one.
+fn continues(before: &Extent, extent: &Extent, slip: Slip) -> bool {
+    let same_code = before.code == extent.code;
+    let both_files = has_page(before.code) && has_page(extent.code);
+    let next_page = before.first_page + before.length == extent.first_page;
+    match slip {
+        Slip::UnjoinedTaken => false,
+        Slip::UnjoinedFileTaken if both_files => false,
+        Slip::UnjoinedZerosTaken if before.code == ZEROS => false,
+        Slip::UnjoinedRefusalTaken if before.code >= FIRST_REFUSAL => false,
+        Slip::SameCodeRefused => same_code,
+        Slip::NextPageOfOtherFileRefused if both_files => next_page,
+        _ => same_code && (next_page || !both_files),
+    }
+}

@@ -1,0 +1,622 @@
+//! One address: the walk through four levels of tables, and the states of an entry.
+
+use super::number::Refusal;
+use super::sheet::{check_sheet, Case};
+use super::slip::Slip;
+
+/// The address is not canonical, or past the top.
+pub const NOT_CANONICAL: Refusal = 20;
+/// A first or second level entry is not valid.
+const TABLE_NOT_VALID: Refusal = 21;
+/// A region record is needed.
+const REGION_NEEDED: Refusal = 22;
+/// The frame is in no run.
+const FRAME_IN_NO_RUN: Refusal = 23;
+/// The frame is too wide.
+const FRAME_TOO_WIDE: Refusal = 24;
+/// The page is backed by a file.
+const BACKED_BY_FILE: Refusal = 25;
+/// The page is in another pagefile.
+const OTHER_PAGEFILE: Refusal = 26;
+/// The page is past the pagefile's end.
+const PAST_PAGEFILE: Refusal = 27;
+/// A fourth prototype entry would be needed.
+const FOURTH_PROTOTYPE: Refusal = 28;
+/// The prototype address is not a multiple of 8.
+const UNALIGNED_PROTOTYPE: Refusal = 29;
+
+pub const PAGE_BYTES: u64 = 4096;
+const ENTRY_BYTES: u64 = 8;
+const LAST_LEVEL: u32 = 4;
+
+const VALID: u32 = 0;
+const LARGE: u32 = 7;
+const PROTOTYPE: u32 = 10;
+const TRANSITION: u32 = 11;
+
+/// Bits 16-63 of a prototype entry that leaves its page to the region record.
+const VAD_PROTOTYPE: u64 = 0xFFFF_FFFF_0000;
+
+/// The three lent files.
+#[derive(Clone, Copy)]
+pub struct Files<'a> {
+    pub sheet: &'a [u8],
+    pub image: &'a [u8],
+    pub pagefile: &'a [u8],
+}
+
+impl Files<'_> {
+    /// For slips: what stands behind the pagefile's last whole page goes unjudged.
+    pub fn without_rest(self) -> Self {
+        let rest = self.pagefile.len() % PAGE_BYTES as usize;
+        Files {
+            pagefile: &self.pagefile[..self.pagefile.len() - rest],
+            ..self
+        }
+    }
+}
+
+/// Where a byte lies; the number is its file offset.
+#[derive(Clone, Copy, PartialEq)]
+pub enum Place {
+    Image(u64),
+    Pagefile(u64),
+    Zeros,
+}
+
+/// The answer for one address.
+pub struct Answer {
+    pub number: u64,
+    pub offset: u64,
+    pub entries: u64,
+    /// How many prototype addresses were resolved on the way; no part of the answer.
+    pub prototypes: u32,
+    /// The place of each entry read; no part of the answer.
+    pub consulted: Vec<Place>,
+}
+
+/// A walk over an accepted case.
+pub struct Walk<'a> {
+    case: Case,
+    /// The frame of the top table.
+    directory_page: u64,
+    image: &'a [u8],
+    pagefile: &'a [u8],
+    slip: Slip,
+    /// The place of each entry that was read.
+    consulted: Vec<Place>,
+    prototypes: u32,
+}
+
+/// Number, offset and entries read for an address.
+pub fn resolve(files: Files, address: u64, slip: Slip) -> Answer {
+    if slip == Slip::CanonicalBeforeSheet && !is_canonical(address, slip) {
+        return refused(NOT_CANONICAL);
+    }
+    match Walk::start(files, slip) {
+        Err(refusal) => refused(refusal),
+        Ok(mut walk) => {
+            let place = walk.resolve(address);
+            walk.answer(place, address)
+        }
+    }
+}
+
+/// A call refused before an entry is read.
+fn refused(refusal: Refusal) -> Answer {
+    Answer {
+        number: u64::from(refusal),
+        offset: 0,
+        entries: 0,
+        prototypes: 0,
+        consulted: Vec::new(),
+    }
+}
+
+impl<'a> Walk<'a> {
+    /// The walk, or the sheet's first fault.
+    pub fn start(files: Files<'a>, slip: Slip) -> Result<Self, Refusal> {
+        let image_length = files.image.len() as u64;
+        let pagefile_length = files.pagefile.len() as u64;
+        let case = check_sheet(files.sheet, image_length, pagefile_length, slip)?;
+        Ok(Walk {
+            directory_page: case.directory_page,
+            case,
+            image: files.image,
+            pagefile: files.pagefile,
+            slip,
+            consulted: Vec::new(),
+            prototypes: 0,
+        })
+    }
+
+    /// Puts another frame in the place of the sheet's directory page.
+    pub fn set_directory_page(&mut self, frame: u64) {
+        self.directory_page = frame;
+    }
+
+    /// The place of the addressed byte.
+    pub fn resolve(&mut self, address: u64) -> Result<Place, Refusal> {
+        self.consulted.clear();
+        self.resolve_deeper(address, 0)
+    }
+
+    /// How many entries were read for the last address.
+    pub fn entries_read(&self) -> u64 {
+        self.consulted.len() as u64
+    }
+
+    fn answer(self, place: Result<Place, Refusal>, address: u64) -> Answer {
+        let entries = match (place, self.slip) {
+            (Err(_), Slip::CountSkipsRefused) => 0,
+            _ => self.consulted.len() as u64,
+        };
+        let (number, offset) = match (place, self.slip) {
+            (Ok(Place::Image(offset)), _) => (1, offset),
+            (Ok(Place::Pagefile(offset)), _) => (2, offset),
+            (Ok(Place::Zeros), Slip::ZerosKeepPlace) => (3, bits(address, 0, 11)),
+            (Ok(Place::Zeros), _) => (3, 0),
+            (Err(refusal), Slip::RefusalKeepsPlace) => (u64::from(refusal), bits(address, 0, 11)),
+            (Err(refusal), _) => (u64::from(refusal), 0),
+        };
+        Answer {
+            number,
+            offset,
+            entries,
+            prototypes: self.prototypes,
+            consulted: self.consulted,
+        }
+    }
+
+    /// The place of a byte whose address was met so many prototype entries deep.
+    fn resolve_deeper(&mut self, address: u64, prototypes: u32) -> Result<Place, Refusal> {
+        self.prototypes = prototypes;
+        if !is_canonical(address, self.slip) {
+            return Err(NOT_CANONICAL);
+        }
+        let mut table = match self.slip {
+            Slip::PrototypeBySheetDirectory if prototypes > 0 => self.case.directory_page,
+            _ => self.directory_page,
+        };
+        for level in 1..LAST_LEVEL {
+            let entry = self.table_entry(table, level, address)?;
+            self.judge_upper_valid(entry, level)?;
+            let large = is_large(entry, level, self.slip);
+            let frame = if large {
+                large_frame(entry, level, address, self.slip)
+            } else {
+                frame_of(entry, self.slip)
+            };
+            self.judge_wide(entry, frame, large)?;
+            if large && self.slip == Slip::LargePageRunAtBase {
+                return self.byte_from_base(entry, level, address);
+            }
+            if large {
+                return self.byte_in_frame(frame, address);
+            }
+            table = frame;
+        }
+        let entry = self.table_entry(table, LAST_LEVEL, address)?;
+        self.judge_last_level(entry, address, prototypes)
+    }
+
+    /// A table's entry for an address, or 23 before it is read.
+    fn table_entry(&mut self, table: u64, level: u32, address: u64) -> Result<u64, Refusal> {
+        let page = match self.image_page(table) {
+            Ok(page) => page,
+            Err(_) if self.slip == Slip::MissingTableIs21 => return Err(TABLE_NOT_VALID),
+            Err(refusal) => {
+                if self.slip == Slip::CountTakesMissingTable {
+                    self.consulted.push(Place::Zeros);
+                }
+                return Err(refusal);
+            }
+        };
+        let index = table_index(level, address, self.slip);
+        Ok(self.consult(Place::Image(PAGE_BYTES * page + ENTRY_BYTES * index)))
+    }
+
+    /// The entry at a place, counted each time.
+    fn consult(&mut self, place: Place) -> u64 {
+        let again = self.consulted.contains(&place);
+        if !(again && self.slip == Slip::CountSkipsRepeated) {
+            self.consulted.push(place);
+        }
+        match place {
+            Place::Image(offset) => word_at(self.image, offset),
+            Place::Pagefile(_) if self.slip == Slip::PrototypeEntryInPagefileUnread => 0,
+            Place::Pagefile(offset) => word_at(self.pagefile, offset),
+            Place::Zeros => 0,
+        }
+    }
+
+    /// The image page of a frame, or 23.
+    fn image_page(&self, frame: u64) -> Result<u64, Refusal> {
+        let mut runs = &self.case.runs[..];
+        if self.slip == Slip::LastRunUnseen {
+            runs = &runs[..runs.len() - 1];
+        }
+        let mut pages_before = 0;
+        for run in runs {
+            let end = run.first_frame + run.pages;
+            let inside = match self.slip {
+                Slip::RunStartExclusive => run.first_frame < frame && frame < end,
+                Slip::RunEndInclusive => run.first_frame <= frame && frame <= end,
+                _ => run.first_frame <= frame && frame < end,
+            };
+            if inside {
+                return Ok(match self.slip {
+                    Slip::GapsNotSkipped => frame,
+                    Slip::RunBaseNotSummed => frame - run.first_frame,
+                    _ => pages_before + (frame - run.first_frame),
+                });
+            }
+            pages_before += run.pages;
+        }
+        Err(FRAME_IN_NO_RUN)
+    }
+
+    /// The addressed byte in its own frame, or 23.
+    fn byte_in_frame(&self, frame: u64, address: u64) -> Result<Place, Refusal> {
+        let page = self.image_page(frame)?;
+        Ok(Place::Image(
+            PAGE_BYTES * page + place_in_page(address, self.slip),
+        ))
+    }
+
+    /// A slip: the run of the large page's base stands for the byte's own.
+    fn byte_from_base(&self, entry: u64, level: u32, address: u64) -> Result<Place, Refusal> {
+        let low = lowest_base_bit(level);
+        let page = self.image_page(bits(entry, low, 47) << (low - 12))?;
+        Ok(Place::Image(PAGE_BYTES * page + bits(address, 0, low - 1)))
+    }
+
+    /// 21 or 22 for an entry above the last level that is not valid.
+    fn judge_upper_valid(&self, entry: u64, level: u32) -> Result<(), Refusal> {
+        let last_upper = level == LAST_LEVEL - 1;
+        let followed = self.slip == Slip::LevelThreeTransitionFollowed
+            && last_upper
+            && is_transition(entry, self.slip);
+        if is_set(entry, VALID) || followed {
+            return Ok(());
+        }
+        if self.slip == Slip::WideBeforeValid && bits(entry, 48, 51) != 0 {
+            return Err(FRAME_TOO_WIDE);
+        }
+        let region_needed = match self.slip {
+            Slip::LevelTwoIs22 => level >= 2,
+            Slip::LevelThreeIs21 => false,
+            Slip::LevelThreeOnlyZeroIs22 => last_upper && entry == 0,
+            _ => last_upper,
+        };
+        Err(if region_needed {
+            REGION_NEEDED
+        } else {
+            TABLE_NOT_VALID
+        })
+    }
+
+    /// 24 for a valid entry with any of bits 48-51 set, whether or not its frame is in a run.
+    fn judge_wide(&self, entry: u64, frame: u64, large: bool) -> Result<(), Refusal> {
+        let wide = match self.slip {
+            Slip::WideEntryNotRefused => false,
+            Slip::WideLargeNotRefused if large => false,
+            Slip::WideBit51NotRefused => bits(entry, 48, 50) != 0,
+            Slip::WideFromBit47 => bits(entry, 47, 51) != 0,
+            Slip::WideToBit52 => bits(entry, 48, 52) != 0,
+            _ => bits(entry, 48, 51) != 0,
+        };
+        if wide && self.slip == Slip::WideAfterRun {
+            self.image_page(frame)?;
+        }
+        if wide {
+            return Err(FRAME_TOO_WIDE);
+        }
+        Ok(())
+    }
+
+    /// Steps 1 to 6 for a last-level entry.
+    fn judge_last_level(
+        &mut self,
+        entry: u64,
+        address: u64,
+        prototypes: u32,
+    ) -> Result<Place, Refusal> {
+        if is_set(entry, VALID) {
+            return self.valid_page(entry, address);
+        }
+        if is_transition(entry, self.slip) {
+            return self.transition_page(entry, address);
+        }
+        if is_set(entry, PROTOTYPE) && is_vad_prototype(entry, self.slip) {
+            return Err(REGION_NEEDED);
+        }
+        if is_set(entry, PROTOTYPE) {
+            return self.prototype_page(entry, address, prototypes);
+        }
+        let region_needed = match self.slip {
+            Slip::MissingPageShownAsZeros => false,
+            Slip::SoftwareZeroNeedsRegion => bits(entry, 32, 63) == 0,
+            _ => entry == 0,
+        };
+        if region_needed {
+            return Err(REGION_NEEDED);
+        }
+        self.software_page(entry, address)
+    }
+
+    /// The rule for the entry that a prototype address led to.
+    fn judge_prototype_entry(&self, entry: u64, address: u64) -> Result<Place, Refusal> {
+        if is_set(entry, VALID) {
+            return self.valid_page(entry, address);
+        }
+        if self.slip == Slip::PrototypeEntryAsLastLevel && is_vad_prototype(entry, self.slip) {
+            return Err(REGION_NEEDED);
+        }
+        if self.slip == Slip::PrototypeEntryTransitionFirst && is_set(entry, TRANSITION) {
+            return self.transition_page(entry, address);
+        }
+        if is_set(entry, PROTOTYPE) && self.slip != Slip::PrototypeEntryUnjudged {
+            return Err(BACKED_BY_FILE);
+        }
+        if is_set(entry, TRANSITION) {
+            return self.transition_page(entry, address);
+        }
+        if self.slip == Slip::ZeroPrototypeEntryNeedsRegion && entry == 0 {
+            return Err(REGION_NEEDED);
+        }
+        self.software_page(entry, address)
+    }
+
+    fn valid_page(&self, entry: u64, address: u64) -> Result<Place, Refusal> {
+        let large = self.slip == Slip::LargeAtLastLevel && is_set(entry, LARGE);
+        let frame = if large {
+            large_frame(entry, LAST_LEVEL - 1, address, self.slip)
+        } else {
+            frame_of(entry, self.slip)
+        };
+        self.judge_wide(entry, frame, large)?;
+        self.byte_in_frame(frame, address)
+    }
+
+    /// The page is still in its frame; bits 48-63 say nothing.
+    fn transition_page(&self, entry: u64, address: u64) -> Result<Place, Refusal> {
+        let frame = match self.slip {
+            Slip::TransitionCalledMissing => return Err(REGION_NEEDED),
+            Slip::TransitionFrameTakesHighBits => bits(entry, 12, 51),
+            _ => frame_of(entry, self.slip),
+        };
+        if self.slip == Slip::TransitionWideRefused {
+            self.judge_wide(entry, frame, false)?;
+        }
+        self.byte_in_frame(frame, address)
+    }
+
+    /// A page of zeros, a byte of the pagefile, 26 or 27.
+    fn software_page(&self, entry: u64, address: u64) -> Result<Place, Refusal> {
+        let pagefile_page = match self.slip {
+            Slip::PagefileOffsetFromFrameBits => bits(entry, 12, 47),
+            Slip::PagefilePageIn20Bits => bits(entry, 32, 51),
+            _ => bits(entry, 32, 63),
+        };
+        let other = match self.slip {
+            Slip::OtherPagefileTaken => false,
+            Slip::OtherPagefileBy3Bits => bits(entry, 1, 3) != 0,
+            Slip::OtherPagefileBy5Bits => bits(entry, 1, 5) != 0,
+            _ => bits(entry, 1, 4) != 0,
+        };
+        if other && self.slip == Slip::OtherPagefileBeforeZero {
+            return Err(OTHER_PAGEFILE);
+        }
+        if bits(entry, 32, 63) == 0 {
+            return Ok(Place::Zeros);
+        }
+        let start = PAGE_BYTES * pagefile_page;
+        let past = match self.slip {
+            Slip::PastPagefileByOnePage => start > self.pagefile.len() as u64,
+            Slip::LastPagefilePageRefused => start + PAGE_BYTES >= self.pagefile.len() as u64,
+            _ => start + PAGE_BYTES > self.pagefile.len() as u64,
+        };
+        match (other, past) {
+            (true, true) if self.slip == Slip::OtherPagefileAfterEnd => Err(PAST_PAGEFILE),
+            (true, _) => Err(OTHER_PAGEFILE),
+            (false, true) => Err(PAST_PAGEFILE),
+            (false, false) => Ok(Place::Pagefile(start + place_in_page(address, self.slip))),
+        }
+    }
+
+    /// Step 4: the entry at the prototype address says where the page is.
+    fn prototype_page(
+        &mut self,
+        entry: u64,
+        address: u64,
+        prototypes: u32,
+    ) -> Result<Place, Refusal> {
+        let target = prototype_address(entry, self.slip);
+        if let Err(refusal) = judge_prototype_address(target, prototypes, self.slip) {
+            if self.slip == Slip::CountTakesRefusedChain {
+                self.consulted.push(Place::Zeros);
+            }
+            return Err(refusal);
+        }
+        let read_before = self.consulted.len();
+        let place = match self.resolve_deeper(target, prototypes + 1) {
+            Ok(place) => place,
+            Err(_) if self.slip == Slip::PrototypeRefusalNeedsRegion => return Err(REGION_NEEDED),
+            Err(refusal) => {
+                if self.slip == Slip::CountSkipsRefusedPrototype {
+                    self.consulted.truncate(read_before);
+                }
+                return Err(refusal);
+            }
+        };
+        let entry = self.prototype_entry(place)?;
+        match self.slip {
+            Slip::PrototypeEntryPlaceOfItsAddress => self.judge_prototype_entry(entry, target),
+            _ => self.judge_prototype_entry(entry, address),
+        }
+    }
+
+    /// The 8 bytes found at a prototype address; in a page of zeros they read as 0.
+    fn prototype_entry(&mut self, place: Place) -> Result<u64, Refusal> {
+        if place == Place::Zeros && self.slip == Slip::PrototypeEntryInZerosRefused {
+            return Err(REGION_NEEDED);
+        }
+        let entry = self.consult(place);
+        let skipped = match self.slip {
+            Slip::CountSkipsPrototypeEntry => true,
+            Slip::CountSkipsEntryInZeros => place == Place::Zeros,
+            _ => false,
+        };
+        if skipped {
+            self.consulted.pop();
+        }
+        Ok(entry)
+    }
+}
+
+/// Bits `low` to `high` of a word, both included, as a number.
+pub fn bits(word: u64, low: u32, high: u32) -> u64 {
+    word << (63 - high) >> (63 - high + low)
+}
+
+fn is_set(word: u64, bit: u32) -> bool {
+    bits(word, bit, bit) != 0
+}
+
+/// Bytes past the end, which only a slip asks for, read as 0.
+pub fn word_at(bytes: &[u8], offset: u64) -> u64 {
+    let offset = offset as usize;
+    match bytes.get(offset..offset + ENTRY_BYTES as usize) {
+        Some(word) => u64::from_le_bytes(word.try_into().expect("a word has 8 bytes")),
+        None => 0,
+    }
+}
+
+pub fn is_canonical(address: u64, slip: Slip) -> bool {
+    match slip {
+        Slip::CanonicalUnjudged => true,
+        Slip::CanonicalBit47Free => matches!(bits(address, 48, 63), 0 | 0xFFFF),
+        Slip::HighHalfRefused => bits(address, 47, 63) == 0,
+        _ => matches!(bits(address, 47, 63), 0 | 0x1FFFF),
+    }
+}
+
+/// Nine address bits for each level, from 39-47 down to 12-20.
+fn table_index(level: u32, address: u64, slip: Slip) -> u64 {
+    let low = 12 + 9 * (LAST_LEVEL - level);
+    match slip {
+        Slip::IndexLosesTopBit => bits(address, low, low + 7),
+        Slip::IndexOfLevelBelow if level < LAST_LEVEL => bits(address, low - 9, low - 1),
+        _ => bits(address, low, low + 8),
+    }
+}
+
+fn frame_of(entry: u64, slip: Slip) -> u64 {
+    match slip {
+        Slip::FrameLosesBit47 => bits(entry, 12, 46),
+        Slip::FrameTakesHighBits => bits(entry, 12, 63),
+        _ => bits(entry, 12, 47),
+    }
+}
+
+/// Bit 7 makes a large page at levels two and three only.
+fn is_large(entry: u64, level: u32, slip: Slip) -> bool {
+    let at_level = match slip {
+        Slip::LargeAtLevelOne => true,
+        Slip::GigabyteBitIgnored => level == 3,
+        Slip::LargeBitIgnored => level == 2,
+        _ => level == 2 || level == 3,
+    };
+    at_level && is_set(entry, LARGE)
+}
+
+/// 30 at level two, 21 at level three.
+fn lowest_base_bit(level: u32) -> u32 {
+    12 + 9 * (LAST_LEVEL - level)
+}
+
+/// The base from the entry, the frame within the large page from the address.
+fn large_frame(entry: u64, level: u32, address: u64, slip: Slip) -> u64 {
+    let low = match slip {
+        Slip::GigabyteTakenAs2MiB => lowest_base_bit(3),
+        _ => lowest_base_bit(level),
+    };
+    let base = match slip {
+        Slip::LargePageTakesLowBaseBits => bits(entry, 12, 47),
+        _ => bits(entry, low, 47) << (low - 12),
+    };
+    match slip {
+        Slip::LargePageLosesAddressBits if level == 3 => base,
+        Slip::GigabytePageLosesAddressBits if level == 2 => base,
+        _ => base | bits(address, 12, low - 1),
+    }
+}
+
+fn place_in_page(address: u64, slip: Slip) -> u64 {
+    match slip {
+        Slip::PlaceInPageDropped => 0,
+        _ => bits(address, 0, 11),
+    }
+}
+
+fn is_transition(entry: u64, slip: Slip) -> bool {
+    let transition = is_set(entry, TRANSITION);
+    match slip {
+        Slip::TransitionBeforePrototype => transition,
+        _ => transition && !is_set(entry, PROTOTYPE),
+    }
+}
+
+fn is_vad_prototype(entry: u64, slip: Slip) -> bool {
+    match slip {
+        Slip::VadPrototypeFollowed => false,
+        Slip::VadByHighBits => bits(entry, 32, 63) == bits(VAD_PROTOTYPE, 16, 47),
+        Slip::VadByLowBits => bits(entry, 16, 47) == bits(VAD_PROTOTYPE, 0, 31),
+        Slip::VadWithOtherBitsFollowed => entry == VAD_PROTOTYPE << 16 | 1 << PROTOTYPE,
+        _ => bits(entry, 16, 63) == VAD_PROTOTYPE,
+    }
+}
+
+/// Bits 16-63, extended from their top bit to 64 bits.
+fn prototype_address(entry: u64, slip: Slip) -> u64 {
+    let address = match slip {
+        Slip::PrototypeAddressFromFrameBits => bits(entry, 12, 47),
+        _ => bits(entry, 16, 63),
+    };
+    let extended = match slip {
+        Slip::PrototypeNotExtended => false,
+        Slip::PrototypeAlwaysExtended => true,
+        _ => is_set(address, 47),
+    };
+    if extended {
+        address | 0xFFFF << 48
+    } else {
+        address
+    }
+}
+
+/// 29, then 28 if three prototype entries are on the chain already.
+fn judge_prototype_address(target: u64, prototypes: u32, slip: Slip) -> Result<(), Refusal> {
+    let unaligned = match slip {
+        Slip::PrototypeUnalignedTaken => false,
+        Slip::PrototypeUnalignedBy4Taken => target % 4 != 0,
+        _ => target % ENTRY_BYTES != 0,
+    };
+    let most = match slip {
+        Slip::ThirdPrototypeRefused => 2,
+        Slip::FourthPrototypeTaken => 4,
+        _ => 3,
+    };
+    let chain_full = prototypes >= most;
+    if chain_full && slip == Slip::PrototypeUnalignedAfterChain {
+        return Err(FOURTH_PROTOTYPE);
+    }
+    if unaligned {
+        return Err(UNALIGNED_PROTOTYPE);
+    }
+    if chain_full {
+        return Err(FOURTH_PROTOTYPE);
+    }
+    Ok(())
+}
