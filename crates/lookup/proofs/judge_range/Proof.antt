@@ -1,0 +1,33 @@
+use borrow.Author.Tests.{lt-ltb, le-ltb, le-leb, lt-leb}
+use Prim.Native.Nat.{_+_, _^_}
+use borrow.Author.Needs.{needs}
+use Rattle.lookup.proofs.judge_range.Statement.{statement}
+use Rattle.lookup.proofs.judge_range.Tie as tie
+
+returns : tie.Need-returns
+returns c = rw (lt-leb 1 (c .before .args .count) (c .if1 .taken))
+
+returns-2 : tie.Need-returns-2
+returns-2 c = rw (le-leb 1 (c .before .before .args .count) (c .before .if1 .left), lt-leb (c .before .before .args .count) (2 ^ 20) (c .if2 .taken))
+
+add-if4 : tie.Need-add-if4
+add-if4 c = search needs
+
+returns-3 : tie.Need-returns-3
+returns-3 c = rw (le-leb 1 (c .before .before .before .before .args .count) (c .before .before .before .if1 .left), le-leb (c .before .before .before .before .args .count) (2 ^ 20) (c .before .before .if2 .left), lt-ltb (c .before .before .before .before .args .start) (2 ^ 35) (c .before .if3 .taken), lt-leb ((c .before .before .before .before .args .start) + (c .before .before .before .before .args .count)) (2 ^ 35) (c .if4 .taken))
+
+returns-4 : tie.Need-returns-4
+returns-4 c = rw (le-leb 1 (c .before .before .before .before .args .count) (c .before .before .before .if1 .left), le-leb (c .before .before .before .before .args .count) (2 ^ 20) (c .before .before .if2 .left), lt-ltb (c .before .before .before .before .args .start) (2 ^ 35) (c .before .if3 .taken), le-leb ((c .before .before .before .before .args .start) + (c .before .before .before .before .args .count)) (2 ^ 35) (c .if4 .left))
+
+add-if5 : tie.Need-add-if5
+add-if5 c = search needs
+
+returns-5 : tie.Need-returns-5
+returns-5 c = rw (le-leb 1 (c .before .before .before .before .args .count) (c .before .before .before .if1 .left), le-leb (c .before .before .before .before .args .count) (2 ^ 20) (c .before .before .if2 .left), le-ltb (c .before .before .before .before .args .start) (2 ^ 35) (c .before .if3 .left), lt-leb ((c .before .before .before .before .args .start) + (c .before .before .before .before .args .count)) (2 ^ 36) (c .if5 .taken))
+
+returns-6 : tie.Need-returns-6
+returns-6 c = rw (le-leb 1 (c .before .before .before .before .args .count) (c .before .before .before .if1 .left), le-leb (c .before .before .before .before .args .count) (2 ^ 20) (c .before .before .if2 .left), le-ltb (c .before .before .before .before .args .start) (2 ^ 35) (c .before .if3 .left), le-leb ((c .before .before .before .before .args .start) + (c .before .before .before .before .args .count)) (2 ^ 36) (c .if5 .left))
+
+pub judge-range-spec : {M : Type 1} → statement M
+judge-range-spec =
+    tie.close (tie.spec returns returns-2 add-if4 returns-3 returns-4 add-if5 returns-5 returns-6)

@@ -1,0 +1,24 @@
+use mathlib.Core.Path.{sym, _∙_}
+use borrow.Author.Tests.{not-true, not-false}
+use Rattle.lookup.proofs.Address.{no-file, in-file}
+use borrow.Author.Needs.{needs}
+use Rattle.lookup.proofs.place.Statement.{statement}
+use Rattle.lookup.proofs.place.Tie as tie
+
+has-page-requires : tie.Need-has-page-requires
+has-page-requires c κs = search needs
+
+returns : tie.Need-returns
+returns c = no-file (c .before .before .args .address) (c .before .before .args .page) (sym (c .before .has-page .ensures) ∙ not-true _ (c .if1 .taken))
+
+mul-t5 : tie.Need-mul-t5
+mul-t5 c = search needs
+
+add-t7 : tie.Need-add-t7
+add-t7 c = search needs
+
+returns-2 : tie.Need-returns-2
+returns-2 c = in-file (c .before .before .before .args .address) (c .before .before .before .args .page) (sym (c .before .before .has-page .ensures) ∙ not-false _ (c .before .if1 .left))
+
+pub place-spec : {M : Type 1} → statement M
+place-spec = tie.close (tie.spec has-page-requires returns mul-t5 add-t7 returns-2)

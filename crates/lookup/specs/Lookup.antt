@@ -1,0 +1,32 @@
+-- 01 "Maps", lookup: the map's own faults, then 20, then 41.
+use Prim.Native.Nat.{ℕ, zero, _+_, _-_, _*_, _%_}
+use mathlib.Core.Bool.{Bool, true, false, not, _&&_}
+use mathlib.Core.List.{List}
+use lib.Dec.{ltb, leb}
+use Rattle.base.specs.Notation.{if_then_else_, bits}
+use Rattle.base.specs.Refusal.{refusalNumber}
+use Rattle.base.specs.declared.Refusal.{Refusal}
+use Rattle.base.specs.declared.Refusal.the-variants.{NotCanonical, OutsideMap}
+use Rattle.varint.specs.Reader.{Read, got, bad}
+use Rattle.walk.specs.Walk.{canonical}
+use Rattle.extents.specs.Extents.{PageAnswer, carries, pageAt}
+use Rattle.extents.specs.Reading.{Map, mapFields}
+use Rattle.lookup.specs.declared.Looked.{Looked}
+
+abbrev pub refusedLookup : Refusal → Looked
+refusedLookup r = record { number = refusalNumber r; offset = 0 }
+
+-- the answer for an address of a page: for 1 and 2 the offset has the place in the page
+abbrev pub answerAt : ℕ → PageAnswer → Looked
+answerAt a p = record { number = p .code; offset = if carries (p .code) then 4096 * p .file + a % 4096 else 0 }
+
+abbrev pub lookupIn : ℕ → Read Map → Looked
+lookupIn a (bad r) = refusedLookup r
+lookupIn a (got m at) =
+    if not (canonical a) then refusedLookup NotCanonical else
+    if leb (m .start) (bits a 12 47) && ltb (bits a 12 47) (m .start + m .count)
+    then answerAt a (pageAt (m .extents) (bits a 12 47 - m .start)) else
+    refusedLookup OutsideMap
+
+unfoldable pub lookupOf : List ℕ → ℕ → Looked
+lookupOf bytes a = lookupIn a (mapFields bytes 0)
