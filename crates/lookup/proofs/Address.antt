@@ -1,9 +1,9 @@
 -- The address: canonical or not, in the range or not.
-use mathlib.Core.Path.{_≡_, refl, sym, ap, _∙_}
-use mathlib.Core.Bool.{Bool, true, false, not, _&&_, _||_}
+use mathlib.Core.Path.{_≡_, _∙_}
+use mathlib.Core.Bool.{true, false, _&&_, _||_}
 use Prim.Native.Nat.{ℕ, zero, suc, _+_, _-_, _*_, _/_, _%_, _^_, _<_, _≤_}
 use native.Mathlib.Omega.{arith}
-use lib.Dec.{ltb, leb, eqb}
+use lib.Dec.{eqb}
 use borrow.Author.Tests.{lt-ltb, le-ltb, le-leb, lt-leb, eq-eqb, ne-eqb}
 use Rattle.base.specs.Notation.{if_then_else_, bits}
 use Rattle.base.specs.declared.Refusal.the-variants.{NotCanonical, OutsideMap}
@@ -11,7 +11,6 @@ use Rattle.walk.specs.Walk.{canonical}
 use Rattle.extents.specs.Extents.{carries}
 use Rattle.lookup.specs.Lookup.{refusedLookup, answerAt}
 use Rattle.lookup.specs.Answer.{asAnswer, askedOf, lookedOf}
-use Rattle.lookup.specs.declared.Looked.{Looked}
 use Rattle.lookup.specs.declared.MapRange.{MapRange}
 use Rattle.lookup.specs.declared.Page.{Page}
 

@@ -5,14 +5,14 @@ use mathlib.Core.Bool.{Bool, true, false, _&&_}
 use Prim.Native.Nat.{ℕ, zero, suc, _+_, _-_, _^_, _<_, _≤_}
 use native.Mathlib.Nat.{sub-zero}
 use native.Mathlib.Omega.{arith}
-use lib.Dec.{ltb, leb, eqb}
+use lib.Dec.{ltb, eqb}
 use lib.ListN.{length}
 use borrow.Author.Tests.{lt-ltb, le-ltb, le-leb, lt-leb, eq-eqb, ne-eqb}
 use Rattle.base.specs.Notation.{if_then_else_}
 use Rattle.base.specs.declared.Refusal.{Refusal}
 use Rattle.base.specs.declared.Refusal.the-variants.{TrailingBytes}
 use Rattle.base.proofs.Test.{Test, test, below, above}
-use Rattle.varint.specs.Reader.{Read, got, bad, Reader, after, return}
+use Rattle.varint.specs.Reader.{Read, got, bad, after, return}
 use Rattle.extents.specs.Extents.{carries, afterOf, extent, pageAt}
 use Rattle.extents.specs.Reading.{extentFrom, extentsFrom}
 use Rattle.extents.specs.declared.Extent.{Extent}

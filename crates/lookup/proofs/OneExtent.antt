@@ -4,19 +4,19 @@ use mathlib.Core.List.{List}
 use mathlib.Core.Bool.{Bool, true, false, not, _&&_, _||_}
 use Prim.Native.Nat.{ℕ, zero, _+_, _^_, _<_, _≤_}
 use native.Mathlib.Omega.{arith}
-use lib.Dec.{ltb, leb, eqb}
+use lib.Dec.{ltb, leb}
 use borrow.Author.Tests.{leb-true, ltb-true}
 use Rattle.base.specs.Notation.{if_then_else_}
 use Rattle.base.specs.declared.Refusal.{Refusal}
 use Rattle.base.specs.declared.Refusal.the-variants.{BadExtent}
-use Rattle.varint.specs.Reader.{Read, got, bad, Reader, after, return}
+use Rattle.varint.specs.Reader.{Read, got, bad, after, return}
 use Rattle.varint.specs.Groups.{number}
 use Rattle.varint.specs.Answer.{numberOf}
 use Rattle.varint.specs.declared.Number.{Number}
-use Rattle.varint.specs.declared.Number.the-variants.{Value, Refused}
-use Rattle.varint.proofs.Reader.{Came, came, held, returned}
+use Rattle.varint.specs.declared.Number.the-variants.{Value}
+use Rattle.varint.proofs.Reader.{came, held, returned}
 use Rattle.varint.proofs.Fields.{field-below}
-use Rattle.extents.specs.Extents.{carries, joins, extent}
+use Rattle.extents.specs.Extents.{carries, extent}
 use Rattle.extents.specs.Reading.{listed, sound, extentFrom}
 use Rattle.extents.specs.declared.Extent.{Extent}
 use Rattle.lookup.specs.Answer.{Fits, firstFrom, extentOf, judgedOf}

@@ -1,17 +1,17 @@
 -- Reading the fields before the extents, test by test; and what a range that was read keeps to.
-use mathlib.Core.Path.{_≡_, refl, sym, ap, _∙_}
+use mathlib.Core.Path.{_≡_, refl, ap, _∙_}
 use mathlib.Core.List.{List}
 use mathlib.Core.Bool.{Bool, true, false, _&&_}
 use Prim.Native.Nat.{ℕ, zero, _+_, _^_, _≤_, _<_}
 use native.Mathlib.Omega.{arith}
-use lib.Dec.{eqb, leb, ltb}
+use lib.Dec.{eqb, leb}
 use borrow.Author.Tests.{eq-eqb, ne-eqb, leb-true}
 use Rattle.base.specs.Notation.{if_then_else_}
 use Rattle.base.specs.declared.Refusal.{Refusal}
 use Rattle.base.specs.declared.Refusal.the-variants.{OutOfLimits}
-use Rattle.varint.specs.Reader.{Read, got, bad, Reader, after, return}
+use Rattle.varint.specs.Reader.{Read, got, bad, after, return}
 use Rattle.varint.specs.Groups.{number}
-use Rattle.varint.proofs.Reader.{Came, came, held, returned}
+use Rattle.varint.proofs.Reader.{came, held, returned}
 use Rattle.extents.specs.Reading.{inHalf}
 use Rattle.lookup.specs.Answer.{rangeFields, rangeOf, limitsAnswer}
 use Rattle.lookup.specs.declared.MapRange.{MapRange}

@@ -1,5 +1,5 @@
 -- The codes and the rules of an extent, test by test.
-use mathlib.Core.Path.{_≡_, refl, sym, ap, _∙_}
+use mathlib.Core.Path.{_≡_, refl, sym, _∙_}
 use mathlib.Core.Bool.{Bool, true, false, not, _&&_, _||_}
 use Prim.Native.Nat.{ℕ, zero, suc, _+_, _-_, _^_, _<_, _≤_}
 use native.Mathlib.Omega.{arith}
@@ -11,7 +11,6 @@ use Rattle.extents.specs.Extents.{carries, afterOf, joins}
 use Rattle.extents.specs.Reading.{listed, sound}
 use Rattle.extents.specs.declared.Extent.{Extent}
 use Rattle.lookup.specs.Answer.{Fits, judgedOf, noteOf}
-use Rattle.lookup.specs.declared.ExtentRead.{ExtentRead}
 use Rattle.lookup.specs.declared.ExtentRead.the-variants.{Taken, Wrong}
 use Rattle.lookup.specs.declared.Page.{Page}
 

@@ -4,7 +4,7 @@ use mathlib.Core.List.{List}
 use mathlib.Core.Bool.{Bool, true, false, not}
 use Prim.Native.Nat.{ℕ, zero, _+_, _-_, _^_, _<_, _≤_}
 use native.Mathlib.Omega.{arith}
-use lib.Dec.{eqb, leb, ltb}
+use lib.Dec.{eqb}
 use lib.ListN.{length}
 use borrow.Author.Tests.{lt-ltb, le-ltb, le-leb, lt-leb}
 use Rattle.base.specs.Notation.{if_then_else_, bits}
@@ -14,7 +14,7 @@ use Rattle.base.proofs.Test.{Test, test, below, above}
 use Rattle.varint.specs.Reader.{Read, got, bad, Reader, after, return}
 use Rattle.varint.specs.Groups.{number}
 use Rattle.walk.specs.Walk.{canonical}
-use Rattle.extents.specs.Extents.{PageAnswer, extent, pageAt}
+use Rattle.extents.specs.Extents.{extent, pageAt}
 use Rattle.extents.specs.Reading.{Map, inHalf, mapFields, extentsFrom}
 use Rattle.extents.specs.declared.Extent.{Extent}
 use Rattle.lookup.specs.Lookup.{refusedLookup, answerAt, lookupIn, lookupOf}

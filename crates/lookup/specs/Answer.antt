@@ -1,12 +1,11 @@
 -- What reading a map finds, as the code hands it back.
 use mathlib.Core.Path.{_≡_}
 use Prim.Native.Nat.{ℕ, _+_, _-_, _^_, _<_, _≤_}
-use mathlib.Core.Bool.{Bool, true, false, not, _&&_}
+use mathlib.Core.Bool.{Bool, false, not, _&&_}
 use mathlib.Core.List.{List}
 use lib.Dec.{ltb, leb, eqb}
 use lib.ListN.{length}
 use Rattle.base.specs.Notation.{if_then_else_, bits}
-use Rattle.base.specs.declared.Refusal.{Refusal}
 use Rattle.base.specs.declared.Refusal.the-variants.{OutOfLimits, TrailingBytes, NotCanonical, OutsideMap, BadExtent}
 use Rattle.varint.specs.Reader.{Read, got, bad, Reader, after, _>>=_, _>>_, return, need}
 use Rattle.varint.specs.Groups.{number}

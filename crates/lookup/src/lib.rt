@@ -322,8 +322,9 @@ fn page_after(e: Extent, n: u64) -> u64
     requires { ⌜ (e .first < 2 ^ 36) × (n < 2 ^ 36) ⌝ }
     ensures { λ r. ⌜ r ≡ afterOf (e .code) n (e .first) ⌝ }
 {
+    let first = e.first;
     if !has_page(e.code) {
-        return e.first;
+        return first;
     }
-    e.first + n
+    first + n
 }

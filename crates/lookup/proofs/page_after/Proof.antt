@@ -15,7 +15,7 @@ add-result : tie.Need-add-result
 add-result c = search needs
 
 returns-2 : tie.Need-returns-2
-returns-2 c = after-page (c .before .before .before .args .e) _ (sym (c .before .before .has-page .ensures) ∙ not-false _ (c .before .if1 .left))
+returns-2 c = after-page (c .before .before .args .e) _ (sym (c .before .has-page .ensures) ∙ not-false _ (c .if1 .left))
 
 pub page-after-spec : {M : Type 1} → statement M
 page-after-spec = tie.close (tie.spec has-page-requires returns add-result returns-2)
