@@ -122,6 +122,42 @@ __attribute__((noinline)) static uint64_t c_read(uint64_t a, uint64_t n, uint8_t
     return n;
 }
 
+/* The layout of a map: numbers in groups of seven bits; pages of one code, and for code 1 of consecutive file pages, in one extent. */
+static size_t c_number(uint8_t *out, size_t size, size_t at, uint64_t n) {
+    for (; n >= 128; n /= 128, at++)
+        if (at < size) out[at] = (uint8_t)(128 + n % 128);
+    if (at < size) out[at] = (uint8_t)n;
+    return at + 1;
+}
+
+static size_t c_map_pass(uint64_t start, uint64_t pages, uint8_t *out, size_t size) {
+    size_t at = c_number(out, size, 0, 1);
+    at = c_number(out, size, at, start >> 12 & 0xFFFFFFFFF);
+    at = c_number(out, size, at, pages);
+    uint64_t length = 0, first = 0;
+    for (uint64_t i = 0; i <= pages; i++) {
+        uint64_t page = i < pages ? c_walk(0, start + 4096 * i) / 4096 : 0;
+        if (length && i < pages && page == first + length) {
+            length++;
+            continue;
+        }
+        if (length) {
+            at = c_number(out, size, at, 1);
+            at = c_number(out, size, at, length);
+            at = c_number(out, size, at, first);
+        }
+        length = 1;
+        first = page;
+    }
+    return at;
+}
+
+__attribute__((noinline)) static uint64_t c_map(uint64_t start, uint64_t pages, uint8_t *out, size_t size) {
+    size_t length = c_map_pass(start, pages, out, 0);
+    if (length > size) return 0;
+    return c_map_pass(start, pages, out, size);
+}
+
 /* ---- measuring */
 
 static double seconds(void) {
@@ -132,6 +168,7 @@ static double seconds(void) {
 
 static uint64_t addresses[1 << 16];
 static uint8_t buffer[1 << 16];
+static uint8_t map_buffer[1 << 24];
 static const uint8_t none[1];
 
 static uint64_t run(int what, int ours) {
@@ -152,18 +189,21 @@ static uint64_t run(int what, int ours) {
             sum += ours ? glint_read(sheet, sheet_length, image, image_length, none, 0, addresses[i], 64, buffer, sizeof buffer).length
                         : c_read(addresses[i], 64, buffer);
         return sum;
-    default:
+    case 4:
         for (int i = 0; i < 1 << 8; i++)
             sum += ours ? glint_read(sheet, sheet_length, image, image_length, none, 0, addresses[i] / 2, sizeof buffer, buffer, sizeof buffer).length
                         : c_read(addresses[i] / 2, sizeof buffer, buffer);
         return sum;
+    default:
+        return ours ? glint_map(sheet, sheet_length, image, image_length, none, 0, 0, PAGES, map_buffer, sizeof map_buffer).length
+                    : c_map(0, PAGES, map_buffer, sizeof map_buffer);
     }
 }
 
 int main(void) {
     static const char *const names[] = {"walk on a parsed case, 2^20 consecutive pages, one call", "walk on a parsed case, random, a call each",
-                                        "address call (checks the sheet), random", "read of 64 bytes, random", "read of 64 KiB, random"};
-    static const double counts[] = {PAGES, 1 << 16, 1 << 16, 1 << 12, 1 << 8};
+                                        "address call (checks the sheet), random", "read of 64 bytes, random", "read of 64 KiB, random", "map of 2^20 pages, each page"};
+    static const double counts[] = {PAGES, 1 << 16, 1 << 16, 1 << 12, 1 << 8, PAGES};
     image = aligned_alloc(4096, image_length);
     if (!image) return 1;
     printf("%-58s %5s %10s %10s %6s\n", "", "runs", "ours ns", "C ns", "ratio");
@@ -171,7 +211,7 @@ int main(void) {
         make_runs(runs);
         make_tables();
         for (int i = 0; i < 1 << 16; i++) addresses[i] = next_random() % ((uint64_t)PAGES * 4096);
-        for (int what = 0; what < 5; what++) {
+        for (int what = 0; what < 6; what++) {
             double best[2] = {1e9, 1e9};
             uint64_t sums[2] = {0, 0};
             for (int turn = 0; turn < 9; turn++)

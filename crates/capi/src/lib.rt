@@ -1,11 +1,15 @@
 // The exported calls: each hands on the call of the same meaning, with its whole contract.
 use address::Answer;
 use address::Part;
+use lookup::Looked;
+use maps::Written;
 use reading::BytesRead;
 ghost use mathlib.Core.Path.{_≡_};
 ghost use Rattle.address.specs.Address.{AddressAnswer};
 ghost use Rattle.address.specs.Page.{PageAnswer, partBytes, pageBytes};
 ghost use Rattle.reading.specs.Read.{ReadAnswer};
+ghost use Rattle.lookup.specs.Lookup.{lookupOf};
+ghost use Rattle.maps.specs.Demand3.{MapAnswer};
 
 #[no_mangle]
 pub extern "C" fn glint_resolve(sheet: &[u8], image: &[u8], pagefile: &[u8], address: u64) -> Answer
@@ -35,4 +39,25 @@ pub extern "C" fn glint_read(
     ensures { λ r. ⌜ ReadAnswer (now (sheet .entry)) (now (image .entry)) (now (pagefile .entry)) address n (now (out .entry)) r (now (out .exit)) ⌝ }
 {
     reading::read_bytes(sheet, image, pagefile, address, n, out)
+}
+
+#[no_mangle]
+pub extern "C" fn glint_map(
+    sheet: &[u8],
+    image: &[u8],
+    pagefile: &[u8],
+    start: u64,
+    pages: u64,
+    out: &mut [u8],
+) -> Written
+    ensures { λ r. ⌜ MapAnswer (now (sheet .entry)) (now (image .entry)) (now (pagefile .entry)) start pages (now (out .entry)) r (now (out .exit)) ⌝ }
+{
+    maps::map_range(sheet, image, pagefile, start, pages, out)
+}
+
+#[no_mangle]
+pub extern "C" fn glint_lookup(map: &[u8], address: u64) -> Looked
+    ensures { λ r. ⌜ r ≡ lookupOf (now (map .entry)) address ⌝ }
+{
+    lookup::lookup(map, address)
 }

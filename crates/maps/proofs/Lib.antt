@@ -1,0 +1,5 @@
+pub mod Codes
+pub mod Ranges
+pub mod Mapping
+pub mod Whole
+pub mod Papers

@@ -1,0 +1,129 @@
+-- Writing a map page by page, and what the map call makes of it.
+use mathlib.Core.Path.{_≡_, refl, sym, ap, _∙_}
+use mathlib.Core.Bool.{Bool, true, false}
+use mathlib.Core.List.{List, [], _∷_, _++_, append-assoc}
+use Prim.Native.Nat.{ℕ, zero, suc, _+_, _-_, _*_, _/_, _%_, _^_, _≤_, _<_}
+use native.Mathlib.Nat.{add-zero}
+use native.Mathlib.Numerals.{add-one}
+use native.Mathlib.Omega.{arith}
+use lib.Dec.{ltb}
+use lib.ListN.{length, length-append}
+use lib.Seq.{sets, length-sets}
+use borrow.Author.Tests.{lt-ltb, le-ltb}
+use Rattle.base.specs.Notation.{bits}
+use Rattle.base.specs.declared.Refusal.the-variants.{MapBufferShort}
+use Rattle.base.proofs.Overlay.{sets-none}
+use Rattle.varint.specs.Groups.{encode}
+use Rattle.varint.specs.Overlay.{Wrote}
+use Rattle.varint.proofs.Writing.{encode-length}
+use Rattle.varint.proofs.Overlay.{wrote-then}
+use Rattle.walk.specs.Walk.{World, resolveOf}
+use Rattle.walk.specs.Rows.{resolvedOf}
+use Rattle.walk.specs.declared.Resolved.{Resolved}
+use Rattle.walk.specs.declared.Place.{Place}
+use Rattle.walk.proofs.Ground.{Sound}
+use Rattle.extents.specs.Extents.{PageAnswer, extentsOf}
+use Rattle.extents.specs.Answers.{page, Clean}
+use Rattle.extents.specs.Layout.{extentsBytes, mapBytes}
+use Rattle.extents.specs.Build.{emptyAt, openBytes, Fed, Fit}
+use Rattle.extents.specs.declared.Builder.{Builder}
+use Rattle.extents.proofs.Feeding.{fed-none, fed-then, fed-finish, fit-empty, fit-less, fit-pushed}
+use Rattle.extents.proofs.ReadBack.{listed-small}
+use Rattle.maps.specs.MapOf.{pageAnswer, pagesOf, headerBytes, mapOf, allowed, MapOutcome, refusedMap, mapInWorld}
+use Rattle.maps.specs.declared.Written.{Written}
+use Rattle.maps.proofs.Codes.{Mapped, resolve-mapped, clean-answer}
+use Rattle.maps.proofs.Ranges.{Allowed, allowed-range, range-top, InRange, in-range}
+
+pub header-written : (start count : ℕ) {o o₁ o₂ o₃ : List ℕ} {a b r : ℕ} → Wrote o 0 (encode 1) a o₁ → Wrote o₁ a (encode (start / 4096 % 68719476736)) b o₂ → Wrote o₂ b (encode count) r o₃ → Wrote o 0 (headerBytes start count) r o₃
+unfolding headerBytes
+header-written start count p q s = wrote-then p (wrote-then q s)
+
+header-small : (start count : ℕ) → length (headerBytes start count) ≤ 18
+unfolding headerBytes
+header-small start count = rw (length-append, length-append) (omega (arith, encode-length 1, encode-length (bits start 12 47), encode-length count))
+
+-- one page more
+pages-next : (n : ℕ) (w : World) (a : ℕ) → pagesOf (n + 1) w a ≡ pagesOf n w a ++ (pageAnswer (resolveOf 3 w (a + 4096 * n) .place) ∷ [])
+unfolding pagesOf
+pages-next zero w a =
+    let e : a + 4096 * 0 ≡ a = omega arith in
+    rw e
+pages-next (suc n) w a =
+    let k : suc n + 1 ≡ suc (n + 1) = omega arith in
+    let e : a + 4096 + 4096 * n ≡ a + 4096 * suc n = omega arith in
+    rw (k, ← e) (ap (λ (l : List PageAnswer). pageAnswer (resolveOf 3 w a .place) ∷ l) (pages-next n w (a + 4096)))
+
+pub pages-long : (n : ℕ) (w : World) (a : ℕ) → length (pagesOf n w a) ≡ n
+unfolding pagesOf
+pages-long zero w a = refl
+pages-long (suc n) w a = ap suc (pages-long n w (a + 4096))
+
+-- i pages are taken
+pub record Mapping (w : World) (start count : ℕ) (old : List ℕ) (b₀ : Builder) (i : ℕ) (out : List ℕ) (b : Builder) : Type 0 where
+  pub within : i ≤ count
+  pub fed : Fed old b₀ (pagesOf i w start) out b
+  pub fit : Fit b (count - i)
+
+pub mapping-none : (w : World) (start count : ℕ) {o : List ℕ} (old : List ℕ) (at : ℕ) → count ≤ 2 ^ 20 → Wrote o 0 (headerBytes start count) at old → Mapping w start count old (emptyAt at) 0 old (emptyAt at)
+unfolding pagesOf
+mapping-none w start count old at h q =
+    let small : at ≤ 18 = omega (arith, q .place, header-small start count) in
+    record { within = omega arith; fed = fed-none old (emptyAt at); fit = fit-empty at (count - 0) (omega arith) (omega arith) }
+
+module _ {w : World} {start count : ℕ} {old : List ℕ} {b₀ : Builder} {i : ℕ} {out : List ℕ} {b : Builder} (q : Mapping w start count old b₀ i out b) where
+  pub mapping-fit : i < count → Fit b 1
+  mapping-fit h = fit-less 1 (omega arith) (q .fit)
+
+  clean-at : Sound w → length (w .image) ≤ 2 ^ 48 → allowed start count ≡ true → i < count → Clean (pageAnswer (resolveOf 3 w (start + 4096 * i) .place))
+  clean-at sound small range h =
+      let r = in-range (allowed-range start count range) (start + 4096 * i) (omega arith) (omega arith) in
+      clean-answer (resolveOf 3 w (start + 4096 * i) .place) (resolve-mapped w sound small 3 (start + 4096 * i) (r .reaches))
+
+  pub mapping-next : Sound w → length (w .image) ≤ 2 ^ 48 → allowed start count ≡ true → i < count → (v : Resolved) → v ≡ resolvedOf (resolveOf 3 w (start + 4096 * i)) → (c f : ℕ) → c ≡ pageAnswer (v .place) .code → f ≡ pageAnswer (v .place) .file
+      → (new : List ℕ) (b′ : Builder) → Fed out b (page c f ∷ []) new b′ → Mapping w start count old b₀ (i + 1) new b′
+  mapping-next sound small range h v e c f ec ef new b′ p =
+      let same-place : v .place ≡ resolveOf 3 w (start + 4096 * i) .place = ap (λ (z : Resolved). z .place) e in
+      let same : page c f ≡ pageAnswer (resolveOf 3 w (start + 4096 * i) .place) = rw (ec, ef, same-place) in
+      let p′ : Fed out b (pageAnswer (resolveOf 3 w (start + 4096 * i) .place) ∷ []) new b′ = rw same at p in
+      let clean = clean-at sound small range h in
+      let k : count - i ≡ suc (count - (i + 1)) = omega arith in
+      record {
+        within = omega arith;
+        fed = rw (pages-next i w start) (fed-then (q .fed) p′);
+        fit = fit-pushed (count - (i + 1)) (omega (arith, listed-small (pageAnswer (resolveOf 3 w (start + 4096 * i) .place) .code) (clean .code))) (omega (arith, clean .file)) (rw k at (q .fit)) p′;
+      }
+
+  pub mapping-end : count ≤ i → Fit b 0
+  mapping-end h = fit-less 0 (omega arith) (q .fit)
+
+pub map-written : {w : World} {start count : ℕ} {o old out new : List ℕ} {at i r : ℕ} {b : Builder} → Wrote o 0 (headerBytes start count) at old → Mapping w start count old (emptyAt at) i out b → count ≤ i
+    → Wrote out (b .at) (openBytes b) r new → Wrote o 0 (mapOf w start count) r new
+unfolding mapOf mapBytes headerBytes
+map-written {w} {start} {count} {o} {old} {out} {new} {at} {i} {r} {b} p q h f =
+    let all : i ≡ count = omega (arith, q .within) in
+    let extents : Wrote old at (extentsBytes (extentsOf (pagesOf count w start))) r new = rw all at (fed-finish (q .fed) f) in
+    rw (sym (regroup (encode 1) (encode (bits start 12 47)) (encode count) (extentsBytes (extentsOf (pagesOf count w start))))) (wrote-then p extents)
+  where
+    regroup : (x y z t : List ℕ) → (x ++ (y ++ z)) ++ t ≡ x ++ (y ++ (z ++ t))
+    regroup x y z t = simp append-assoc
+
+pub wrote-long : {o o′ bs : List ℕ} {at r : ℕ} → Wrote o at bs r o′ → length o′ ≡ length o
+wrote-long {o} {o′} {bs} {at} {r} q = rw (q .bytes) (length-sets o at bs)
+
+-- ---- the two passes
+
+module _ (w : World) (start count : ℕ) (old last : List ℕ) (r : ℕ) (p : Wrote [] 0 (mapOf w start count) r last) where
+  nothing : last ≡ []
+  nothing = p .bytes ∙ sets-none 0 (mapOf w start count)
+
+  pub short-map : length (last ++ old) < r → (answer : Written) → answer ≡ refusedMap MapBufferShort → record { answer = answer; buffer = last ++ old } ≡ mapInWorld w start count old
+  short-map h answer g =
+      let l : length old < length (mapOf w start count) = omega (arith, p .place, rw nothing at h) in
+      rw (g, nothing, lt-ltb (length old) (length (mapOf w start count)) l)
+
+  pub full-map : r ≤ length (last ++ old) → (r₂ : ℕ) (new : List ℕ) → Wrote (last ++ old) 0 (mapOf w start count) r₂ new → record { answer = record { number = 0; length = r }; buffer = new } ≡ mapInWorld w start count old
+  full-map h r₂ new q =
+      let l : length (mapOf w start count) ≤ length old = omega (arith, p .place, rw nothing at h) in
+      let e : r ≡ length (mapOf w start count) = omega (arith, p .place) in
+      let b : new ≡ sets old 0 (mapOf w start count) = rw nothing at (q .bytes) in
+      rw (le-ltb (length old) (length (mapOf w start count)) l, e, b)

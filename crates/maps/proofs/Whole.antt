@@ -1,0 +1,202 @@
+-- Demand 3, and the map call above the two passes.
+use mathlib.Core.Path.{_≡_, refl, sym, ap, _∙_}
+use mathlib.Core.Bool.{Bool, true, false, not, _&&_, _||_}
+use mathlib.Core.List.{List, [], _∷_, _++_}
+use Prim.Native.Nat.{ℕ, zero, suc, _+_, _-_, _*_, _/_, _%_, _^_, _≤_, _<_}
+use native.Mathlib.Omega.{arith}
+use lib.Dec.{eqb, leb, ltb}
+use lib.ListN.{length, take, drop, getD}
+use lib.Seq.{sets, sets-eq, take-at}
+use borrow.Author.Tests.{lt-ltb, le-ltb, le-leb, eq-eqb, ne-eqb}
+use Rattle.base.specs.Notation.{if_then_else_, bits}
+use Rattle.base.specs.Refusal.{refusalNumber}
+use Rattle.base.specs.declared.Refusal.{Refusal}
+use Rattle.base.specs.declared.Refusal.the-variants.{BadMapRange, MapBufferShort}
+use Rattle.base.proofs.Test.{Test, test, below, above}
+use Rattle.base.proofs.Numbers.{ten-or-more}
+use Rattle.sheet.specs.Sheet.{Sheet, Check, accepted, pagesIn}
+use Rattle.sheet.specs.Sheet as sheet
+use Rattle.sheet.specs.Answer.{RowNumbers}
+use Rattle.sheet.specs.declared.Checked.{Checked}
+use Rattle.sheet.proofs.AcceptedCase.{AcceptedCase, accepted-laws, pages-below}
+use Rattle.walk.specs.Walk.{World, worldOf, resolveOf, reachable, canonical, numberOf, offsetOf}
+use Rattle.walk.specs.Rows.{worldIn}
+use Rattle.walk.specs.declared.Place.{Place}
+use Rattle.walk.specs.declared.Place.the-variants.{Image, Pagefile, Zeros, Refused}
+use Rattle.walk.proofs.Ground.{Sound, At, resolve-at}
+use Rattle.walk.proofs.SamePage.{moved, same-page}
+use Rattle.walk.proofs.CaseWorld.{Opened}
+use Rattle.address.specs.Case.{checkOf}
+use Rattle.extents.specs.Extents.{PageAnswer, carries, extentsOf, pageAt}
+use Rattle.extents.specs.Answers.{page, pageOf, Normal, SameAnswer, AnswersAs, Clean, AllClean}
+use Rattle.extents.specs.Layout.{mapBytes}
+use Rattle.extents.specs.declared.Extent.{Extent}
+use Rattle.extents.proofs.Pages.{both-true, pages-back}
+use Rattle.extents.proofs.Fewest.{fewest}
+use Rattle.extents.proofs.ReadBack.{reads-back}
+use Rattle.lookup.specs.Lookup.{answerAt, lookupIn, lookupOf}
+use Rattle.lookup.specs.declared.Looked.{Looked}
+use Rattle.maps.specs.MapOf.{pageAnswer, pagesOf, mapOf, allowed, MapOutcome, refusedMap, mapRefusal, mapInWorld, mapCall}
+use Rattle.maps.specs.Demand3.{walkAnswer, AnswersAsWalk, Demand3, Demand3In, MapAnswer}
+use Rattle.maps.specs.declared.Written.{Written}
+use Rattle.maps.proofs.Codes.{resolve-mapped, clean-answer}
+use Rattle.maps.proofs.Ranges.{Allowed, allowed-range, InRange, in-range, start-in-half}
+use Rattle.maps.proofs.Mapping.{pages-long}
+
+-- page k of the pages
+nth-page : (n : ℕ) (w : World) (a k : ℕ) → k < n → pageOf (pagesOf n w a) k ≡ pageAnswer (resolveOf 3 w (a + 4096 * k) .place)
+unfolding pagesOf
+nth-page zero w a k h = absurd (omega arith)
+nth-page (suc n) w a zero h =
+    let e : a + 4096 * 0 ≡ a = omega arith in
+    rw e
+nth-page (suc n) w a (suc k) h =
+    let e : a + 4096 + 4096 * k ≡ a + 4096 * suc k = omega arith in
+    rw (← e) (nth-page n w (a + 4096) k (omega arith))
+
+-- no refusal has a page of a file
+bare-refusal : (r : Refusal) → carries (refusalNumber r) ≡ false
+bare-refusal r =
+    let h : 10 ≤ refusalNumber r = ten-or-more r in
+    rw (ne-eqb (refusalNumber r) 1 (λ e. omega (arith, e, h)), ne-eqb (refusalNumber r) 2 (λ e. omega (arith, e, h)))
+
+-- the answer of a page's first byte gives that of each of its bytes
+page-answers : (w : World) (b k : ℕ) → b % 4096 ≡ 0 → k < 4096 → (p : Place) → At w b p → answerAt (b + k) (pageAnswer p) ≡ record { number = numberOf (moved k p); offset = offsetOf (moved k p) }
+page-answers w b k hb hk (Image o) t = ap (λ (x : ℕ). record { number = 1; offset = x }) (omega (arith, t .1))
+page-answers w b k hb hk (Pagefile o) t = ap (λ (x : ℕ). record { number = 2; offset = x }) (omega (arith, t .1))
+page-answers w b k hb hk Zeros t = refl
+page-answers w b k hb hk (Refused r) t = rw (bare-refusal r)
+
+module _ (w : World) (sound : Sound w) (small : length (w .image) ≤ 2 ^ 48) (start count : ℕ) (range : allowed start count ≡ true) where
+  q : Allowed start count
+  q = allowed-range start count range
+
+  abbrev pages : List PageAnswer
+  pages = pagesOf count w start
+
+  all-clean : (n a : ℕ) → ((k : ℕ) → k < n → reachable (a + 4096 * k) ≡ true) → AllClean (pagesOf n w a)
+  unfolding pagesOf
+  all-clean zero a h = tt
+  all-clean (suc n) a h =
+      let e : a + 4096 * 0 ≡ a = omega arith in (
+        clean-answer (resolveOf 3 w a .place) (resolve-mapped w sound small 3 a (rw e at (h 0 (omega arith)))),
+        all-clean n (a + 4096) (λ k l. rw (step k) (h (suc k) (omega arith))),
+      )
+    where
+      step : (k : ℕ) → a + 4096 + 4096 * k ≡ a + 4096 * suc k
+      step k = omega arith
+
+  clean : AllClean pages
+  clean = all-clean count start (λ k l. in-range q (start + 4096 * k) (omega arith) (omega arith) .reaches)
+
+  normal : (ps : List PageAnswer) → AllClean ps → Normal ps
+  normal [] c = tt
+  normal (p ∷ ps) c = (c .0 .bare, normal ps (c .1))
+
+  canonical-of : (a : ℕ) → reachable a ≡ true → canonical a ≡ true
+  unfolding reachable
+  canonical-of a h = both-true (ltb a (2 ^ 64)) (canonical a) h .1
+
+  -- ---- the map answers as the walk does
+
+  page-of : (a : ℕ) → start ≤ a → a < start + 4096 * count → answerAt a (pageOf pages ((a - start) / 4096)) ≡ walkAnswer w a
+  page-of a l u =
+      let k = (a - start) / 4096 in
+      let b = start + 4096 * k in
+      let o = a % 4096 in
+      let hk : k < count = omega arith in
+      let hb : b % 4096 ≡ 0 = omega (arith, q .aligned) in
+      let here : b + o ≡ a = omega (arith, q .aligned) in
+      let at : pageOf pages k ≡ pageAnswer (resolveOf 3 w b .place) = nth-page count w start k hk in
+      let move : resolveOf 3 w a .place ≡ moved o (resolveOf 3 w b .place) = ap (λ (x : ℕ). resolveOf 3 w x .place) (sym here) ∙ ap (λ v. v .place) (same-page w b o hb (omega arith) 3) in
+      ap (answerAt a) at
+      ∙ ap (λ (x : ℕ). answerAt x (pageAnswer (resolveOf 3 w b .place))) (sym here)
+      ∙ page-answers w b o hb (omega arith) (resolveOf 3 w b .place) (resolve-at w sound 3 b)
+      ∙ ap (λ (p : Place). record { number = numberOf p; offset = offsetOf p }) (sym move)
+
+  map-answers : (a : ℕ) → start ≤ a → a < start + 4096 * count → lookupOf (mapOf w start count) a ≡ walkAnswer w a
+  unfolding lookupOf mapOf
+  map-answers a l u =
+      let r = in-range q a l u in
+      rw (
+        reads-back pages (bits start 12 47) count clean (sym (pages-long count w start)) (start-in-half q),
+        canonical-of a (r .reaches),
+        le-leb (bits start 12 47) (bits a 12 47) (r .not-below),
+        lt-ltb (bits a 12 47) (bits start 12 47 + count) (r .not-above),
+        r .page,
+        pages-back pages ((a - start) / 4096) (omega (arith, pages-long count w start)),
+      )
+      (page-of a l u)
+
+  -- ---- no list of extents that answers so is shorter
+
+  same-answer : (x : PageAnswer) (p : Place) (a : ℕ) → a % 4096 ≡ 0 → answerAt a x ≡ record { number = numberOf p; offset = offsetOf p } → SameAnswer x (pageAnswer p)
+  same-answer x p a h e =
+      let ec : x .code ≡ numberOf p = ap (λ (z : Looked). z .number) e in
+      record { code = ec; file = λ c. go (rw (← ec) at c) }
+    where
+      go : carries (x .code) ≡ true → x .file ≡ offsetOf p / 4096
+      go c =
+          let eo : (if carries (x .code) then 4096 * x .file + a % 4096 else 0) ≡ offsetOf p = ap (λ (z : Looked). z .offset) e in
+          let ef : 4096 * x .file + a % 4096 ≡ offsetOf p = rw c at eo in
+          omega arith
+
+  fewest-extents : (es : List Extent) → AnswersAsWalk w start count es → length (extentsOf pages) ≤ length es
+  fewest-extents es s = fewest pages es (normal pages clean) (record { lengths = s .lengths; sum = s .sum ∙ sym (pages-long count w start); answers = each })
+    where
+      each : (k : ℕ) → k < length pages → SameAnswer (pageAt es k) (pageOf pages k)
+      each k h =
+          let hk : k < count = omega (arith, pages-long count w start) in
+          let a = start + 4096 * k in
+          let there : (a - start) / 4096 ≡ k = omega arith in
+          rw (nth-page count w start k hk)
+          (same-answer (pageAt es k) (resolveOf 3 w a .place) a (omega (arith, q .aligned)) (rw there at (s .answers a (omega arith) (omega arith))))
+
+  -- ---- demand 3
+
+  pub demand3 : (old : List ℕ) → Demand3 w start count old (mapInWorld w start count old)
+  demand3 old = record {
+    short = λ h. rw (lt-ltb (length old) (length (mapOf w start count)) h);
+    written = λ h. rw (le-ltb (length old) (length (mapOf w start count)) h);
+    answers = λ e a l u. go (test (length old) (length (mapOf w start count))) e a l u;
+    fewest = fewest-extents;
+  }
+    where
+      go : Test (length old) (length (mapOf w start count)) → mapInWorld w start count old .answer .number ≡ 0 → (a : ℕ) → start ≤ a → a < start + 4096 * count
+          → lookupOf (take (mapInWorld w start count old .answer .length) (mapInWorld w start count old .buffer)) a ≡ walkAnswer w a
+      go (below h) e a l u =
+          let z : refusalNumber MapBufferShort ≡ 0 = rw (lt-ltb (length old) (length (mapOf w start count)) h) at e in
+          absurd (omega (arith, z))
+      go (above h) e a l u =
+          rw (
+            le-ltb (length old) (length (mapOf w start count)) h,
+            sets-eq (mapOf w start count) old 0 (omega arith),
+            take-at (mapOf w start count) (drop (0 + length (mapOf w start count)) old) (length (mapOf w start count)) refl,
+          )
+          (map-answers a l u)
+
+-- ---- the map call
+
+-- an accepted image has at most 2^36 pages
+pub small-image : (sh image pagefile : List ℕ) (v : Checked) → Opened sh image pagefile v → length image ≤ 2 ^ 48
+small-image sh image pagefile v o =
+    let a : AcceptedCase (length image) (length pagefile) (o .case) = accepted-laws sh (length image) (length pagefile) (o .case) (o .check) in
+    let below : 0 + pagesIn (o .case .runs) ≤ 2 ^ 36 = pages-below 0 0 (o .case .runs) (omega arith) (a .chain) in
+    omega (arith, a .image-pages)
+
+module _ (sh image pagefile : List ℕ) (start count : ℕ) (old : List ℕ) where
+  pub refused-sheet-map : (x : Refusal) → checkOf sh image pagefile ≡ sheet.refused x → (r : Written) → r ≡ refusedMap x → MapAnswer sh image pagefile start count old r old
+  unfolding mapCall
+  refused-sheet-map x e r g = record { same = rw (e, g); demand3 = rw e tt }
+
+  module _ (v : Checked) (o : Opened sh image pagefile v) where
+    pub refused-range : allowed start count ≡ false → (r : Written) → r ≡ refusedMap BadMapRange → MapAnswer sh image pagefile start count old r old
+    unfolding mapCall
+    refused-range h r g = record { same = rw (o .check, h, g); demand3 = rw (o .check) (λ e. absurd (let z : true ≡ false = sym e ∙ h in let y : _≡_ {A = ℕ} 0 1 = cc in omega arith)) }
+
+    pub mapped : allowed start count ≡ true → (k : ℕ) → RowNumbers (v .runs .count) k → (r : Written) (new : List ℕ)
+        → record { answer = r; buffer = new } ≡ mapInWorld (worldIn (take k (v .runs .rows)) (v .directory) image pagefile) start count old → MapAnswer sh image pagefile start count old r new
+    unfolding mapCall
+    mapped h k m r new e =
+        let e′ : record { answer = r; buffer = new } ≡ mapInWorld (worldOf (o .case) image pagefile) start count old = rw (o .world k m) at e in
+        record { same = rw (o .check, h) e′; demand3 = rw (o .check) (λ x. rw e′ (demand3 (worldOf (o .case) image pagefile) (o .sound) (small-image sh image pagefile v o) start count h old)) }

@@ -1,0 +1,48 @@
+-- Demand 3, for an accepted case with the world w, an allowed range and a lent buffer.
+use Prim.Native.Nat.{ℕ, zero, _+_, _*_, _/_, _%_, _-_, _≤_, _<_}
+use mathlib.Core.Path.{_≡_}
+use mathlib.Core.Bool.{true}
+use mathlib.Core.List.{List, [], _∷_}
+use lib.ListN.{length, take}
+use Rattle.base.specs.Refusal.{refusalNumber}
+use Rattle.base.specs.declared.Refusal.the-variants.{MapBufferShort}
+use Rattle.walk.specs.Walk.{World, resolveOf, numberOf, offsetOf}
+use Rattle.extents.specs.Extents.{extentsOf, pageAt, pagesIn}
+use Rattle.extents.specs.Answers.{Lengths}
+use Rattle.extents.specs.declared.Extent.{Extent}
+use Rattle.lookup.specs.Lookup.{answerAt, lookupOf}
+use Rattle.lookup.specs.declared.Looked.{Looked}
+use Rattle.sheet.specs.Sheet.{Check, accepted, refused}
+use Rattle.walk.specs.Walk.{worldOf}
+use Rattle.address.specs.Case.{checkOf}
+use Rattle.maps.specs.MapOf.{MapOutcome, mapOf, pagesOf, allowed, mapCall}
+use Rattle.maps.specs.declared.Written.{Written}
+
+-- the page walk's answer: number and offset, as the address call hands them back
+abbrev pub walkAnswer : World → ℕ → Looked
+walkAnswer w a = record { number = numberOf (resolveOf 3 w a .place); offset = offsetOf (resolveOf 3 w a .place) }
+
+-- a list of extents over the range that answers every address as the walk does: codes and first pages are any numbers
+pub record AnswersAsWalk (w : World) (start count : ℕ) (es : List Extent) : Type 0 where
+  pub lengths : Lengths es
+  pub sum : pagesIn es ≡ count
+  pub answers : (a : ℕ) → start ≤ a → a < start + 4096 * count → answerAt a (pageAt es ((a - start) / 4096)) ≡ walkAnswer w a
+
+pub record Demand3 (w : World) (start count : ℕ) (old : List ℕ) (out : MapOutcome) : Type 0 where
+  -- refused for room exactly if its bytes are more than the buffer holds, and for nothing else
+  pub short : length old < length (mapOf w start count) → out .answer .number ≡ refusalNumber MapBufferShort
+  pub written : length (mapOf w start count) ≤ length old → out .answer .number ≡ 0
+  -- the written bytes answer every address of the range, whichever byte of whichever page, as the walk does
+  pub answers : out .answer .number ≡ 0 → (a : ℕ) → start ≤ a → a < start + 4096 * count → lookupOf (take (out .answer .length) (out .buffer)) a ≡ walkAnswer w a
+  -- no list of extents that answers so is shorter
+  pub fewest : (es : List Extent) → AnswersAsWalk w start count es → length (extentsOf (pagesOf count w start)) ≤ length es
+
+-- for every accepted case and allowed range
+abbrev pub Demand3In : List ℕ → List ℕ → ℕ → ℕ → List ℕ → MapOutcome → Check → Type 0
+Demand3In image pagefile start count old out (refused r) = Unit {0}
+Demand3In image pagefile start count old out (accepted s) = allowed start count ≡ true → Demand3 (worldOf s image pagefile) start count old out
+
+-- the map call's promise: what it hands back, and demand 3
+pub record MapAnswer (sheet image pagefile : List ℕ) (start count : ℕ) (old : List ℕ) (r : Written) (new : List ℕ) : Type 0 where
+  pub same : record { answer = r; buffer = new } ≡ mapCall sheet image pagefile start count old
+  pub demand3 : Demand3In image pagefile start count old (record { answer = r; buffer = new }) (checkOf sheet image pagefile)

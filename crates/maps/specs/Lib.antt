@@ -1,0 +1,2 @@
+pub mod MapOf
+pub mod Demand3

@@ -1,0 +1,179 @@
+// The map call: where each page of a range leads, as extents.
+use base::Refusal;
+use entry::Frame;
+use extents::Builder;
+use sheet::Outcome;
+use walk::Place;
+ghost use mathlib.Core.Path.{_≡_};
+ghost use mathlib.Core.Bool.{true};
+ghost use Prim.Native.Nat.{_≤_, _^_};
+ghost use lib.ListN.{length};
+ghost use Rattle.varint.specs.Overlay.{Wrote};
+ghost use Rattle.walk.specs.Rows.{worldIn};
+ghost use Rattle.maps.specs.MapOf.{pageAnswer, headerBytes, mapOf, allowed, refusedMap, mapInWorld};
+ghost use Rattle.maps.specs.Demand3.{MapAnswer};
+
+// 01's number, and the length of what was written.
+#[repr(C)]
+pub struct Written {
+    pub number: u64,
+    pub length: u64,
+}
+
+// The number of a page's answer and, for 1 and 2, the page of the file.
+pub struct PageCode {
+    pub code: u64,
+    pub file: u64,
+}
+
+// The map of a range into the lent buffer.
+pub fn map_range(
+    sheet: &[u8],
+    image: &[u8],
+    pagefile: &[u8],
+    start: u64,
+    pages: u64,
+    out: &mut [u8],
+) -> Written
+    ensures { λ r. ⌜ MapAnswer (now (sheet .entry)) (now (image .entry)) (now (pagefile .entry)) start pages (now (out .entry)) r (now (out .exit)) ⌝ }
+{
+    let checked = sheet::check_sheet(sheet, image.len() as u64, pagefile.len() as u64);
+    let outcome = checked.outcome;
+    match outcome {
+        Outcome::Refused(fault) => refuse(fault),
+        Outcome::Accepted => {
+            if !is_allowed(start, pages) {
+                return refuse(Refusal::BadMapRange);
+            }
+            let table = checked.runs;
+            let rows = table.rows;
+            let k = sheet::row_numbers(table.count);
+            let directory = checked.directory;
+            map_in(&rows[..k], image, pagefile, directory, start, pages, out)
+        }
+    }
+}
+
+// The same of a case whose sheet was read and an allowed range: a measuring pass, then a writing one.
+fn map_in(
+    rows: &[u64],
+    image: &[u8],
+    pagefile: &[u8],
+    directory: Frame,
+    start: u64,
+    pages: u64,
+    out: &mut [u8],
+) -> Written
+    requires { ⌜ (allowed start pages ≡ true) × (length (now image) ≤ 2 ^ 48) ⌝ }
+    ensures { λ r. ⌜ record { answer = r; buffer = now (out .exit) } ≡ mapInWorld (worldIn (now (rows .entry)) directory (now (image .entry)) (now (pagefile .entry))) start pages (now (out .entry)) ⌝ }
+{
+    let length = write_map(
+        rows,
+        image,
+        pagefile,
+        directory,
+        start,
+        pages,
+        &mut out[..0],
+    );
+    if out.len() < length {
+        return refuse(Refusal::MapBufferShort);
+    }
+    write_map(rows, image, pagefile, directory, start, pages, out);
+    Written {
+        number: 0,
+        length: length as u64,
+    }
+}
+
+fn refuse(fault: Refusal) -> Written
+    ensures { λ r. ⌜ r ≡ refusedMap fault ⌝ }
+{
+    Written {
+        number: fault.number(),
+        length: 0,
+    }
+}
+
+// 1 to 2^20 whole pages, all canonical and in one half.
+fn is_allowed(start: u64, pages: u64) -> bool
+    ensures { λ r. ⌜ r ≡ allowed start pages ⌝ }
+{
+    if start % 4096 != 0 {
+        return false;
+    }
+    if pages < 1 {
+        return false;
+    }
+    if 1048576 < pages {
+        return false;
+    }
+    if start < 18446603336221196288 {
+        if 140737488355328 < start {
+            return false;
+        }
+        return 4096 * pages <= 140737488355328 - start;
+    }
+    4096 * pages - 1 <= 18446744073709551615 - start
+}
+
+// Writes the map, and answers its length; bytes that fall past the buffer's end are counted and not written.
+fn write_map(
+    rows: &[u64],
+    image: &[u8],
+    pagefile: &[u8],
+    directory: Frame,
+    start: u64,
+    pages: u64,
+    out: &mut [u8],
+) -> usize
+    requires { ⌜ (allowed start pages ≡ true) × (length (now image) ≤ 2 ^ 48) ⌝ }
+    ensures { λ r. ⌜ Wrote (now (out .entry)) 0 (mapOf (worldIn (now (rows .entry)) directory (now (image .entry)) (now (pagefile .entry))) start pages) r (now (out .exit)) ⌝ }
+{
+    let at = write_header(start, pages, out);
+    let mut builder = Builder {
+        at: at,
+        code: 0,
+        pages: 0,
+        first: 0,
+    };
+    let mut i = 0;
+    while i < pages {
+        let found = walk::resolve_in(rows, image, pagefile, directory, start + 4096 * i);
+        let place = found.place;
+        let page = page_code(place);
+        builder = builder.push(out, page.code, page.file);
+        i += 1;
+    }
+    builder.finish(out)
+}
+
+// Edition, start page, page count.
+fn write_header(start: u64, pages: u64, out: &mut [u8]) -> usize
+    requires { ⌜ pages ≤ 2 ^ 20 ⌝ }
+    ensures { λ r. ⌜ Wrote (now (out .entry)) 0 (headerBytes start pages) r (now (out .exit)) ⌝ }
+{
+    let a = varint::write_number(out, 0, 1);
+    let b = varint::write_number(out, a, start / 4096 % 68719476736);
+    varint::write_number(out, b, pages)
+}
+
+fn page_code(place: Place) -> PageCode
+    ensures { λ r. ⌜ (r .code ≡ pageAnswer place .code) × (r .file ≡ pageAnswer place .file) ⌝ }
+{
+    match place {
+        Place::Image(o) => PageCode {
+            code: 1,
+            file: o / 4096,
+        },
+        Place::Pagefile(o) => PageCode {
+            code: 2,
+            file: o / 4096,
+        },
+        Place::Zeros => PageCode { code: 3, file: 0 },
+        Place::Refused(fault) => PageCode {
+            code: fault.number(),
+            file: 0,
+        },
+    }
+}
