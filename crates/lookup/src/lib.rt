@@ -92,7 +92,7 @@ fn place(address: u64, page: Page) -> Looked
     requires { ⌜ page .file < 2 ^ 36 ⌝ }
     ensures { λ r. ⌜ r ≡ answerAt address (asAnswer page) ⌝ }
 {
-    if !has_page(page.code) {
+    if !extents::has_file_page(page.code) {
         return Looked {
             number: page.code,
             offset: 0,
@@ -250,7 +250,7 @@ fn read_extent(s: &[u8], at: usize, left: u64, prev: Extent) -> ExtentRead
 fn read_first(s: &[u8], at: usize, code: u64) -> Number
     ensures { λ r. ⌜ r ≡ numberOf (firstFrom code (now (s .entry)) at) ⌝ }
 {
-    if !has_page(code) {
+    if !extents::has_file_page(code) {
         return Number::Value(0, at);
     }
     varint::read_field(s, at)
@@ -307,23 +307,13 @@ fn is_listed(code: u64) -> bool
     code <= 29
 }
 
-// Codes 1 and 2 have a page of a file.
-fn has_page(code: u64) -> bool
-    ensures { λ r. ⌜ r ≡ carries code ⌝ }
-{
-    if code == 1 {
-        return true;
-    }
-    code == 2
-}
-
 // The file page n pages after an extent's first.
 fn page_after(e: Extent, n: u64) -> u64
     requires { ⌜ (e .first < 2 ^ 36) × (n < 2 ^ 36) ⌝ }
     ensures { λ r. ⌜ r ≡ afterOf (e .code) n (e .first) ⌝ }
 {
     let first = e.first;
-    if !has_page(e.code) {
+    if !extents::has_file_page(e.code) {
         return first;
     }
     first + n

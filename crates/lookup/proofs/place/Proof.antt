@@ -5,11 +5,11 @@ use borrow.Author.Needs.{needs}
 use Rattle.lookup.proofs.place.Statement.{statement}
 use Rattle.lookup.proofs.place.Tie as tie
 
-has-page-requires : tie.Need-has-page-requires
-has-page-requires c κs = search needs
+has-file-page-requires : tie.Need-has-file-page-requires
+has-file-page-requires c κs = search needs
 
 returns : tie.Need-returns
-returns c = no-file (c .before .before .args .address) (c .before .before .args .page) (sym (c .before .has-page .ensures) ∙ not-true _ (c .if1 .taken))
+returns c = no-file (c .before .before .args .address) (c .before .before .args .page) (sym (c .before .has-file-page .ensures) ∙ not-true _ (c .if1 .taken))
 
 mul-t5 : tie.Need-mul-t5
 mul-t5 c = search needs
@@ -18,7 +18,7 @@ add-t7 : tie.Need-add-t7
 add-t7 c = search needs
 
 returns-2 : tie.Need-returns-2
-returns-2 c = in-file (c .before .before .before .args .address) (c .before .before .before .args .page) (sym (c .before .before .has-page .ensures) ∙ not-false _ (c .before .if1 .left))
+returns-2 c = in-file (c .before .before .before .args .address) (c .before .before .before .args .page) (sym (c .before .before .has-file-page .ensures) ∙ not-false _ (c .before .if1 .left))
 
 pub place-spec : {M : Type 1} → statement M
-place-spec = tie.close (tie.spec has-page-requires returns mul-t5 add-t7 returns-2)
+place-spec = tie.close (tie.spec has-file-page-requires returns mul-t5 add-t7 returns-2)
