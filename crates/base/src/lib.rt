@@ -1,6 +1,7 @@
 // The refusals of document 01 and their numbers: each is named once, here.
 ghost use mathlib.Core.Path.{_≡_};
 ghost use Rattle.base.specs.Refusal.{refusalNumber};
+ghost use Rattle.base.specs.Written.{notWritten};
 
 pub enum Refusal {
     Truncated,
@@ -66,5 +67,21 @@ impl Refusal {
             Refusal::ListBufferShort => 53,
             Refusal::NoProcessorBlock => 55,
         }
+    }
+}
+
+// 01's number of a call that writes into a lent buffer, and the length of what was written.
+#[repr(C)]
+pub struct Written {
+    pub number: u64,
+    pub length: u64,
+}
+
+pub fn not_written(fault: Refusal) -> Written
+    ensures { λ r. ⌜ r ≡ notWritten fault ⌝ }
+{
+    Written {
+        number: fault.number(),
+        length: 0,
     }
 }

@@ -1,8 +1,8 @@
 // The exported calls: each hands on the call of the same meaning, with its whole contract.
 use address::Answer;
 use address::Part;
+use base::Written;
 use lookup::Looked;
-use maps::Written;
 use reading::BytesRead;
 ghost use mathlib.Core.Path.{_≡_};
 ghost use Rattle.address.specs.Address.{AddressAnswer};
@@ -10,6 +10,7 @@ ghost use Rattle.address.specs.Page.{PageAnswer, partBytes, pageBytes};
 ghost use Rattle.reading.specs.Read.{ReadAnswer};
 ghost use Rattle.lookup.specs.Lookup.{lookupOf};
 ghost use Rattle.maps.specs.Demand3.{MapAnswer};
+ghost use Rattle.process_list.specs.Exact.{ListAnswer};
 
 #[no_mangle]
 pub extern "C" fn glint_resolve(sheet: &[u8], image: &[u8], pagefile: &[u8], address: u64) -> Answer
@@ -60,4 +61,17 @@ pub extern "C" fn glint_lookup(map: &[u8], address: u64) -> Looked
     ensures { λ r. ⌜ r ≡ lookupOf (now (map .entry)) address ⌝ }
 {
     lookup::lookup(map, address)
+}
+
+#[no_mangle]
+pub extern "C" fn glint_process_list(
+    sheet: &[u8],
+    image: &[u8],
+    pagefile: &[u8],
+    head: u64,
+    out: &mut [u64],
+) -> Written
+    ensures { λ r. ⌜ ListAnswer (now (sheet .entry)) (now (image .entry)) (now (pagefile .entry)) head (now (out .entry)) r (now (out .exit)) ⌝ }
+{
+    process_list::process_list(sheet, image, pagefile, head, out)
 }

@@ -3,11 +3,11 @@ use base::Refusal;
 use extents::Extent;
 use varint::Number;
 ghost use mathlib.Core.Path.{_≡_};
-ghost use Prim.Native.Nat.{_<_, _≤_, _^_};
+ghost use Prim.Native.Nat.{_<_, _^_};
 ghost use Rattle.base.specs.Notation.{bits};
 ghost use Rattle.varint.specs.Answer.{numberOf};
 ghost use Rattle.walk.specs.Walk.{canonical};
-ghost use Rattle.extents.specs.Extents.{carries, afterOf, extent};
+ghost use Rattle.extents.specs.Extents.{extent};
 ghost use Rattle.extents.specs.Reading.{listed, sound, extentFrom, extentsFrom};
 ghost use Rattle.lookup.specs.Lookup.{refusedLookup, answerAt, lookupOf};
 ghost use Rattle.lookup.specs.Answer.{rangeFields, rangeOf, limitsAnswer, Fits, firstFrom, extentOf, judgedOf, asAnswer, noteOf, pageIn, FileBelow, askedOf, lookedOf};
@@ -218,7 +218,7 @@ fn note(old: Page, done: u64, k: u64, e: Extent) -> Page
     if e.pages <= n {
         return old;
     }
-    let file = page_after(e, n);
+    let file = extents::page_after(e.code, n, e.first);
     Page { code: e.code, file }
 }
 
@@ -287,8 +287,7 @@ fn is_sound(left: u64, prev: Extent, e: Extent) -> bool
     if prev.code != e.code {
         return true;
     }
-    let n = prev.pages;
-    page_after(prev, n) != e.first
+    extents::page_after(prev.code, prev.pages, prev.first) != e.first
 }
 
 // 1, 2, 3, 21 to 29.
@@ -305,16 +304,4 @@ fn is_listed(code: u64) -> bool
         return false;
     }
     code <= 29
-}
-
-// The file page n pages after an extent's first.
-fn page_after(e: Extent, n: u64) -> u64
-    requires { ⌜ (e .first < 2 ^ 36) × (n < 2 ^ 36) ⌝ }
-    ensures { λ r. ⌜ r ≡ afterOf (e .code) n (e .first) ⌝ }
-{
-    let first = e.first;
-    if !extents::has_file_page(e.code) {
-        return first;
-    }
-    first + n
 }

@@ -2,4 +2,3 @@ pub mod Codes
 pub mod Ranges
 pub mod Mapping
 pub mod Whole
-pub mod Papers

@@ -29,8 +29,9 @@ use Rattle.extents.specs.Build.{emptyAt, openBytes, Fed, Fit}
 use Rattle.extents.specs.declared.Builder.{Builder}
 use Rattle.extents.proofs.Feeding.{fed-none, fed-then, fed-finish, fit-empty, fit-less, fit-pushed}
 use Rattle.extents.proofs.ReadBack.{listed-small}
-use Rattle.maps.specs.MapOf.{pageAnswer, pagesOf, headerBytes, mapOf, allowed, MapOutcome, refusedMap, mapInWorld}
-use Rattle.maps.specs.declared.Written.{Written}
+use Rattle.maps.specs.MapOf.{pageAnswer, pagesOf, headerBytes, mapOf, allowed, mapInWorld}
+use Rattle.base.specs.declared.Written.{Written}
+use Rattle.base.specs.Written.{WriteOutcome, notWritten, unwritten, written}
 use Rattle.maps.proofs.Codes.{Mapped, resolve-mapped, clean-answer}
 use Rattle.maps.proofs.Ranges.{Allowed, allowed-range, range-top, InRange, in-range}
 
@@ -116,7 +117,7 @@ module _ (w : World) (start count : ℕ) (old last : List ℕ) (r : ℕ) (p : Wr
   nothing : last ≡ []
   nothing = p .bytes ∙ sets-none 0 (mapOf w start count)
 
-  pub short-map : length (last ++ old) < r → (answer : Written) → answer ≡ refusedMap MapBufferShort → record { answer = answer; buffer = last ++ old } ≡ mapInWorld w start count old
+  pub short-map : length (last ++ old) < r → (answer : Written) → answer ≡ notWritten MapBufferShort → record { answer = answer; buffer = last ++ old } ≡ mapInWorld w start count old
   short-map h answer g =
       let l : length old < length (mapOf w start count) = omega (arith, p .place, rw nothing at h) in
       rw (g, nothing, lt-ltb (length old) (length (mapOf w start count)) l)

@@ -36,9 +36,10 @@ use Rattle.extents.proofs.Fewest.{fewest}
 use Rattle.extents.proofs.ReadBack.{reads-back}
 use Rattle.lookup.specs.Lookup.{answerAt, lookupIn, lookupOf}
 use Rattle.lookup.specs.declared.Looked.{Looked}
-use Rattle.maps.specs.MapOf.{pageAnswer, pagesOf, mapOf, allowed, MapOutcome, refusedMap, mapRefusal, mapInWorld, mapCall}
+use Rattle.maps.specs.MapOf.{pageAnswer, pagesOf, mapOf, allowed, mapInWorld, mapCall}
 use Rattle.maps.specs.Demand3.{walkAnswer, AnswersAsWalk, Demand3, Demand3In, MapAnswer}
-use Rattle.maps.specs.declared.Written.{Written}
+use Rattle.base.specs.declared.Written.{Written}
+use Rattle.base.specs.Written.{WriteOutcome, notWritten, unwritten, written}
 use Rattle.maps.proofs.Codes.{resolve-mapped, clean-answer}
 use Rattle.maps.proofs.Ranges.{Allowed, allowed-range, InRange, in-range, start-in-half}
 use Rattle.maps.proofs.Mapping.{pages-long}
@@ -185,12 +186,12 @@ small-image sh image pagefile v o =
     omega (arith, a .image-pages)
 
 module _ (sh image pagefile : List ℕ) (start count : ℕ) (old : List ℕ) where
-  pub refused-sheet-map : (x : Refusal) → checkOf sh image pagefile ≡ sheet.refused x → (r : Written) → r ≡ refusedMap x → MapAnswer sh image pagefile start count old r old
+  pub refused-sheet-map : (x : Refusal) → checkOf sh image pagefile ≡ sheet.refused x → (r : Written) → r ≡ notWritten x → MapAnswer sh image pagefile start count old r old
   unfolding mapCall
   refused-sheet-map x e r g = record { same = rw (e, g); demand3 = rw e tt }
 
   module _ (v : Checked) (o : Opened sh image pagefile v) where
-    pub refused-range : allowed start count ≡ false → (r : Written) → r ≡ refusedMap BadMapRange → MapAnswer sh image pagefile start count old r old
+    pub refused-range : allowed start count ≡ false → (r : Written) → r ≡ notWritten BadMapRange → MapAnswer sh image pagefile start count old r old
     unfolding mapCall
     refused-range h r g = record { same = rw (o .check, h, g); demand3 = rw (o .check) (λ e. absurd (let z : true ≡ false = sym e ∙ h in let y : _≡_ {A = ℕ} 0 1 = cc in omega arith)) }
 

@@ -5,6 +5,8 @@ use mathlib.Core.Bool.{true}
 use mathlib.Core.List.{List, [], _∷_}
 use lib.ListN.{length, take}
 use Rattle.base.specs.Refusal.{refusalNumber}
+use Rattle.base.specs.Written.{WriteOutcome}
+use Rattle.base.specs.declared.Written.{Written}
 use Rattle.base.specs.declared.Refusal.the-variants.{MapBufferShort}
 use Rattle.walk.specs.Walk.{World, resolveOf, numberOf, offsetOf}
 use Rattle.extents.specs.Extents.{extentsOf, pageAt, pagesIn}
@@ -15,8 +17,7 @@ use Rattle.lookup.specs.declared.Looked.{Looked}
 use Rattle.sheet.specs.Sheet.{Check, accepted, refused}
 use Rattle.walk.specs.Walk.{worldOf}
 use Rattle.address.specs.Case.{checkOf}
-use Rattle.maps.specs.MapOf.{MapOutcome, mapOf, pagesOf, allowed, mapCall}
-use Rattle.maps.specs.declared.Written.{Written}
+use Rattle.maps.specs.MapOf.{mapOf, pagesOf, allowed, mapCall}
 
 -- the page walk's answer: number and offset, as the address call hands them back
 abbrev pub walkAnswer : World → ℕ → Looked
@@ -28,7 +29,7 @@ pub record AnswersAsWalk (w : World) (start count : ℕ) (es : List Extent) : Ty
   pub sum : pagesIn es ≡ count
   pub answers : (a : ℕ) → start ≤ a → a < start + 4096 * count → answerAt a (pageAt es ((a - start) / 4096)) ≡ walkAnswer w a
 
-pub record Demand3 (w : World) (start count : ℕ) (old : List ℕ) (out : MapOutcome) : Type 0 where
+pub record Demand3 (w : World) (start count : ℕ) (old : List ℕ) (out : WriteOutcome) : Type 0 where
   -- refused for room exactly if its bytes are more than the buffer holds, and for nothing else
   pub short : length old < length (mapOf w start count) → out .answer .number ≡ refusalNumber MapBufferShort
   pub written : length (mapOf w start count) ≤ length old → out .answer .number ≡ 0
@@ -38,7 +39,7 @@ pub record Demand3 (w : World) (start count : ℕ) (old : List ℕ) (out : MapOu
   pub fewest : (es : List Extent) → AnswersAsWalk w start count es → length (extentsOf (pagesOf count w start)) ≤ length es
 
 -- for every accepted case and allowed range
-abbrev pub Demand3In : List ℕ → List ℕ → ℕ → ℕ → List ℕ → MapOutcome → Check → Type 0
+abbrev pub Demand3In : List ℕ → List ℕ → ℕ → ℕ → List ℕ → WriteOutcome → Check → Type 0
 Demand3In image pagefile start count old out (refused r) = Unit {0}
 Demand3In image pagefile start count old out (accepted s) = allowed start count ≡ true → Demand3 (worldOf s image pagefile) start count old out
 

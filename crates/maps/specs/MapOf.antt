@@ -5,10 +5,8 @@ use mathlib.Core.Bool.{Bool, true, false, _&&_, _||_}
 use mathlib.Core.List.{List, [], _∷_, _++_}
 use lib.Dec.{ltb, leb, eqb}
 use lib.ListN.{length}
-use lib.Seq.{sets}
 use Rattle.base.specs.Notation.{if_then_else_, bits, within}
-use Rattle.base.specs.Refusal.{refusalNumber}
-use Rattle.base.specs.declared.Refusal.{Refusal}
+use Rattle.base.specs.Written.{WriteOutcome, unwritten, written}
 use Rattle.base.specs.declared.Refusal.the-variants.{BadMapRange, MapBufferShort}
 use Rattle.varint.specs.Groups.{encode}
 use Rattle.sheet.specs.Sheet.{Check, accepted, refused}
@@ -17,7 +15,6 @@ use Rattle.walk.specs.declared.Place.{Place}
 use Rattle.address.specs.Case.{checkOf}
 use Rattle.extents.specs.Extents.{PageAnswer, extentsOf}
 use Rattle.extents.specs.Layout.{mapBytes}
-use Rattle.maps.specs.declared.Written.{Written}
 
 -- the number as code, for 1 and 2 the offset divided by 4,096 as file page
 abbrev pub pageAnswer : Place → PageAnswer
@@ -43,28 +40,17 @@ allowed start count =
     && (within 1 (2 ^ 20) count
     && (leb (start + 4096 * count) (2 ^ 47) || (leb (2 ^ 64 - 2 ^ 47) start && leb (start + 4096 * count) (2 ^ 64))))
 
--- the answer, and the lent buffer after the call
-pub record MapOutcome : Type 0 where
-  pub answer : Written
-  pub buffer : List ℕ
-
-abbrev pub refusedMap : Refusal → Written
-refusedMap r = record { number = refusalNumber r; length = 0 }
-
-abbrev pub mapRefusal : List ℕ → Refusal → MapOutcome
-mapRefusal out r = record { answer = refusedMap r; buffer = out }
-
 -- 44 exactly if the map is longer than the buffer; bytes past the map stay
-abbrev pub mapInWorld : World → ℕ → ℕ → List ℕ → MapOutcome
+abbrev pub mapInWorld : World → ℕ → ℕ → List ℕ → WriteOutcome
 mapInWorld w start count out =
-    if ltb (length out) (length (mapOf w start count)) then mapRefusal out MapBufferShort else
-    record { answer = record { number = 0; length = length (mapOf w start count) }; buffer = sets out 0 (mapOf w start count) }
+    if ltb (length out) (length (mapOf w start count)) then unwritten out MapBufferShort else
+    written out (mapOf w start count)
 
 -- the sheet, then 40, then 44
-abbrev pub mapIn : List ℕ → List ℕ → ℕ → ℕ → List ℕ → Check → MapOutcome
-mapIn image pagefile start count out (refused r) = mapRefusal out r
+abbrev pub mapIn : List ℕ → List ℕ → ℕ → ℕ → List ℕ → Check → WriteOutcome
+mapIn image pagefile start count out (refused r) = unwritten out r
 mapIn image pagefile start count out (accepted s) =
-    if allowed start count then mapInWorld (worldOf s image pagefile) start count out else mapRefusal out BadMapRange
+    if allowed start count then mapInWorld (worldOf s image pagefile) start count out else unwritten out BadMapRange
 
-unfoldable pub mapCall : List ℕ → List ℕ → List ℕ → ℕ → ℕ → List ℕ → MapOutcome
+unfoldable pub mapCall : List ℕ → List ℕ → List ℕ → ℕ → ℕ → List ℕ → WriteOutcome
 mapCall sheet image pagefile start count out = mapIn image pagefile start count out (checkOf sheet image pagefile)

@@ -1,5 +1,6 @@
 // The map call: where each page of a range leads, as extents.
 use base::Refusal;
+use base::Written;
 use entry::Frame;
 use extents::Builder;
 use sheet::Outcome;
@@ -10,15 +11,8 @@ ghost use Prim.Native.Nat.{_≤_, _^_};
 ghost use lib.ListN.{length};
 ghost use Rattle.varint.specs.Overlay.{Wrote};
 ghost use Rattle.walk.specs.Rows.{worldIn};
-ghost use Rattle.maps.specs.MapOf.{pageAnswer, headerBytes, mapOf, allowed, refusedMap, mapInWorld};
+ghost use Rattle.maps.specs.MapOf.{pageAnswer, headerBytes, mapOf, allowed, mapInWorld};
 ghost use Rattle.maps.specs.Demand3.{MapAnswer};
-
-// 01's number, and the length of what was written.
-#[repr(C)]
-pub struct Written {
-    pub number: u64,
-    pub length: u64,
-}
 
 // The number of a page's answer and, for 1 and 2, the page of the file.
 pub struct PageCode {
@@ -40,10 +34,10 @@ pub fn map_range(
     let checked = sheet::check_sheet(sheet, image.len() as u64, pagefile.len() as u64);
     let outcome = checked.outcome;
     match outcome {
-        Outcome::Refused(fault) => refuse(fault),
+        Outcome::Refused(fault) => base::not_written(fault),
         Outcome::Accepted => {
             if !is_allowed(start, pages) {
-                return refuse(Refusal::BadMapRange);
+                return base::not_written(Refusal::BadMapRange);
             }
             let table = checked.runs;
             let rows = table.rows;
@@ -67,6 +61,7 @@ fn map_in(
     requires { ⌜ (allowed start pages ≡ true) × (length (now image) ≤ 2 ^ 48) ⌝ }
     ensures { λ r. ⌜ record { answer = r; buffer = now (out .exit) } ≡ mapInWorld (worldIn (now (rows .entry)) directory (now (image .entry)) (now (pagefile .entry))) start pages (now (out .entry)) ⌝ }
 {
+    let none = 0;
     let length = write_map(
         rows,
         image,
@@ -74,24 +69,15 @@ fn map_in(
         directory,
         start,
         pages,
-        &mut out[..0],
+        &mut out[..none],
     );
     if out.len() < length {
-        return refuse(Refusal::MapBufferShort);
+        return base::not_written(Refusal::MapBufferShort);
     }
     write_map(rows, image, pagefile, directory, start, pages, out);
     Written {
         number: 0,
         length: length as u64,
-    }
-}
-
-fn refuse(fault: Refusal) -> Written
-    ensures { λ r. ⌜ r ≡ refusedMap fault ⌝ }
-{
-    Written {
-        number: fault.number(),
-        length: 0,
     }
 }
 

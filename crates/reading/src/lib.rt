@@ -67,7 +67,16 @@ pub fn read_in(
 ) -> BytesRead
     ensures { λ r. ⌜ record { answer = r; buffer = now (out .exit) } ≡ readAll (now (out .entry)) n (bytesOf n (worldIn (now (rows .entry)) directory (now (image .entry)) (now (pagefile .entry))) address) ⌝ }
 {
-    match fill(rows, image, pagefile, directory, address, n, &mut out[..0]) {
+    let none = 0;
+    match fill(
+        rows,
+        image,
+        pagefile,
+        directory,
+        address,
+        n,
+        &mut out[..none],
+    ) {
         Filled::Stopped(fault) => refuse(fault),
         Filled::AllRead(zeros) => {
             fill(rows, image, pagefile, directory, address, n, out);

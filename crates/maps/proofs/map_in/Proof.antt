@@ -1,3 +1,4 @@
+use lib.ListN.{length-take}
 use native.Mathlib.Omega.{arith}
 use Rattle.maps.proofs.Mapping.{short-map, full-map, wrote-long}
 use borrow.Author.Needs.{needs}
@@ -8,19 +9,19 @@ slice-relend-prefix-write-map : tie.Need-slice-relend-prefix-write-map
 slice-relend-prefix-write-map c = search needs
 
 slice-aggregate-write-map : tie.Need-slice-aggregate-write-map
-slice-aggregate-write-map c = search needs
+slice-aggregate-write-map c = simp length-take (omega arith)
 
 write-map-requires : tie.Need-write-map-requires
 write-map-requires c κs = search needs
 
-refuse-requires : tie.Need-refuse-requires
-refuse-requires c κs = search needs
+not-written-requires : tie.Need-not-written-requires
+not-written-requires c κs = search needs
 
 same-length : tie.Need-same-length
 same-length c = search needs
 
 returns : tie.Need-returns
-returns c = short-map _ _ _ _ _ _ (c .before .before .before .before .write-map .ensures) (c .before .if1 .taken) _ (c .refuse .ensures)
+returns c = short-map _ _ _ _ _ _ (c .before .before .before .before .write-map .ensures) (c .before .if1 .taken) _ (c .not-written .ensures)
 
 write-map-requires-2 : tie.Need-write-map-requires-2
 write-map-requires-2 c κs = search needs
@@ -38,7 +39,7 @@ map-in-spec =
     slice-relend-prefix-write-map
     slice-aggregate-write-map
     write-map-requires
-    refuse-requires
+    not-written-requires
     same-length
     returns
     write-map-requires-2

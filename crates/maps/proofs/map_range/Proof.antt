@@ -16,8 +16,8 @@ check-sheet-requires c κs = search needs
 enum-known-outcome : tie.Need-enum-known-outcome
 enum-known-outcome c = search needs
 
-refuse-requires : tie.Need-refuse-requires
-refuse-requires c κs = search needs
+not-written-requires : tie.Need-not-written-requires
+not-written-requires c κs = search needs
 
 enum-told : tie.Need-enum-told
 enum-told c = search needs
@@ -25,11 +25,11 @@ enum-told c = search needs
 is-allowed-requires : tie.Need-is-allowed-requires
 is-allowed-requires c κs = search needs
 
-refuse-requires-2 : tie.Need-refuse-requires-2
-refuse-requires-2 c κs = search needs
+not-written-requires-2 : tie.Need-not-written-requires-2
+not-written-requires-2 c κs = search needs
 
 returns : tie.Need-returns
-returns c = refused-range _ _ _ _ _ _ _ (opened _ _ _ _ (c .before .before .before .before .before .check-sheet .ensures) (c .before .before .before .enum-told .given .1)) (sym (c .before .before .is-allowed .ensures) ∙ not-true _ (c .before .if1 .taken)) _ (c .refuse2 .ensures)
+returns c = refused-range _ _ _ _ _ _ _ (opened _ _ _ _ (c .before .before .before .before .before .check-sheet .ensures) (c .before .before .before .enum-told .given .1)) (sym (c .before .before .is-allowed .ensures) ∙ not-true _ (c .before .if1 .taken)) _ (c .not-written2 .ensures)
 
 row-numbers-requires : tie.Need-row-numbers-requires
 row-numbers-requires c κs = search needs
@@ -44,7 +44,7 @@ map-in-requires : tie.Need-map-in-requires
 map-in-requires c κs = (sym (c .before .before .before .before .before .before .before .is-allowed .ensures) ∙ not-false _ (c .before .before .before .before .before .before .if1 .left), small-image (now (c .before .before .before .before .before .before .before .before .before .before .before .before .before .before .before .args .sheet)) (now (c .before .before .before .before .before .before .before .before .before .before .before .before .before .before .before .args .image)) (now (c .before .before .before .before .before .before .before .before .before .before .before .before .before .before .before .args .pagefile)) _ (opened (now (c .before .before .before .before .before .before .before .before .before .before .before .before .before .before .before .args .sheet)) (now (c .before .before .before .before .before .before .before .before .before .before .before .before .before .before .before .args .image)) (now (c .before .before .before .before .before .before .before .before .before .before .before .before .before .before .before .args .pagefile)) _ (c .before .before .before .before .before .before .before .before .before .before .check-sheet .ensures) (c .before .before .before .before .before .before .before .before .enum-told .given .1)))
 
 returns-2 : tie.Need-returns-2
-returns-2 c = refused-sheet-map _ _ _ _ _ _ _ (refused-sheet _ _ _ (c .before .before .before .before .check-sheet .ensures) (c .before .before .outcome .given .1)) _ (c .refuse .ensures)
+returns-2 c = refused-sheet-map _ _ _ _ _ _ _ (refused-sheet _ _ _ (c .before .before .before .before .check-sheet .ensures) (c .before .before .outcome .given .1)) _ (c .not-written .ensures)
 
 same-length : tie.Need-same-length
 same-length c = search needs
@@ -58,10 +58,10 @@ map-range-spec =
     (tie.spec
     check-sheet-requires
     enum-known-outcome
-    refuse-requires
+    not-written-requires
     enum-told
     is-allowed-requires
-    refuse-requires-2
+    not-written-requires-2
     returns
     row-numbers-requires
     array-share-prefix-rows

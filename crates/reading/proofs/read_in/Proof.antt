@@ -1,3 +1,5 @@
+use lib.ListN.{length-take}
+use native.Mathlib.Omega.{arith}
 use Rattle.reading.proofs.TwoPasses.{refused-read, done-read}
 use borrow.Author.Needs.{needs}
 use Rattle.reading.proofs.read_in.Statement.{statement}
@@ -7,7 +9,7 @@ slice-relend-prefix-fill : tie.Need-slice-relend-prefix-fill
 slice-relend-prefix-fill c = search needs
 
 slice-aggregate-fill : tie.Need-slice-aggregate-fill
-slice-aggregate-fill c = search needs
+slice-aggregate-fill c = simp length-take (omega arith)
 
 fill-requires : tie.Need-fill-requires
 fill-requires c κs = search needs

@@ -1,0 +1,5 @@
+pub mod Links
+pub mod Following
+pub mod Closing
+pub mod Answers
+pub mod Examples

@@ -1,0 +1,55 @@
+use lib.ListN.{length-take}
+use native.Mathlib.Omega.{arith}
+use Rattle.process_list.proofs.Answers.{broken-list, whole-list}
+use borrow.Author.Needs.{needs}
+use Rattle.process_list.proofs.list_in.Statement.{statement}
+use Rattle.process_list.proofs.list_in.Tie as tie
+
+slice-relend-prefix-follow : tie.Need-slice-relend-prefix-follow
+slice-relend-prefix-follow c = search needs
+
+slice-aggregate-follow : tie.Need-slice-aggregate-follow
+slice-aggregate-follow c = simp length-take (omega arith)
+
+follow-requires : tie.Need-follow-requires
+follow-requires c κs = search needs
+
+enum-known-fault : tie.Need-enum-known-fault
+enum-known-fault c = search needs
+
+not-written-requires : tie.Need-not-written-requires
+not-written-requires c κs = search needs
+
+enum-known-count : tie.Need-enum-known-count
+enum-known-count c = search needs
+
+follow-requires-2 : tie.Need-follow-requires-2
+follow-requires-2 c κs = search needs
+
+same-length : tie.Need-same-length
+same-length c = search needs
+
+returns : tie.Need-returns
+returns c = broken-list _ _ _ _ (c .before .before .before .before .before .before .follow .ensures) _ (c .before .before .fault .given .1) _ (c .not-written .ensures)
+
+same-length-2 : tie.Need-same-length-2
+same-length-2 c = search needs
+
+returns-2 : tie.Need-returns-2
+returns-2 c = whole-list _ _ _ _ (c .before .before .before .before .before .before .before .before .before .follow .ensures) _ (c .before .before .before .before .before .count .given .1) _ _ (c .before .before .follow2 .ensures)
+
+pub list-in-spec : {M : Type 1} → statement M
+list-in-spec =
+    tie.close
+    (tie.spec
+    slice-relend-prefix-follow
+    slice-aggregate-follow
+    follow-requires
+    enum-known-fault
+    not-written-requires
+    enum-known-count
+    follow-requires-2
+    same-length
+    returns
+    same-length-2
+    returns-2)
