@@ -41,7 +41,7 @@ pub fn resolve_address(sheet: &[u8], image: &[u8], pagefile: &[u8], address: u64
     }
 }
 
-fn refuse(fault: Refusal) -> Answer
+pub fn refuse(fault: Refusal) -> Answer
     ensures { λ r. ⌜ r ≡ refusal fault ⌝ }
 {
     Answer {

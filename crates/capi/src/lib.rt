@@ -10,6 +10,7 @@ ghost use Rattle.address.specs.Page.{PageAnswer, partBytes, pageBytes};
 ghost use Rattle.reading.specs.Read.{ReadAnswer};
 ghost use Rattle.lookup.specs.Lookup.{lookupOf};
 ghost use Rattle.maps.specs.Demand3.{MapAnswer};
+ghost use Rattle.processor_block.specs.Block.{BlockAnswer};
 ghost use Rattle.process_list.specs.Exact.{ListAnswer};
 
 #[no_mangle]
@@ -61,6 +62,18 @@ pub extern "C" fn glint_lookup(map: &[u8], address: u64) -> Looked
     ensures { λ r. ⌜ r ≡ lookupOf (now (map .entry)) address ⌝ }
 {
     lookup::lookup(map, address)
+}
+
+#[no_mangle]
+pub extern "C" fn glint_processor_block(
+    sheet: &[u8],
+    image: &[u8],
+    pagefile: &[u8],
+    from: u64,
+) -> Answer
+    ensures { λ r. ⌜ BlockAnswer (now (sheet .entry)) (now (image .entry)) (now (pagefile .entry)) from r ⌝ }
+{
+    processor_block::processor_block(sheet, image, pagefile, from)
 }
 
 #[no_mangle]

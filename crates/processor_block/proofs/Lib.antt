@@ -1,0 +1,4 @@
+pub mod Fitting
+pub mod Searching
+pub mod Meaning
+pub mod Answers

@@ -1,0 +1,119 @@
+// The search of the image for a processor block.
+use address::Answer;
+use base::Refusal;
+use entry::Frame;
+use sheet::Outcome;
+use walk::Place;
+ghost use mathlib.Core.Path.{_≡_};
+ghost use Prim.Native.Nat.{_+_, _/_, _%_, _≤_, _<_};
+ghost use lib.ListN.{length};
+ghost use Rattle.processor_block.specs.Block.{wordsFit, isAt, BlockAnswer, Searches, NoneFit};
+
+// The first processor block not below an offset: number 1, its offset, and the entries read for its Self.
+pub fn processor_block(sheet: &[u8], image: &[u8], pagefile: &[u8], from: u64) -> Answer
+    ensures { λ r. ⌜ BlockAnswer (now (sheet .entry)) (now (image .entry)) (now (pagefile .entry)) from r ⌝ }
+{
+    let checked = sheet::check_sheet(sheet, image.len() as u64, pagefile.len() as u64);
+    let outcome = checked.outcome;
+    match outcome {
+        Outcome::Refused(fault) => address::refuse(fault),
+        Outcome::Accepted => {
+            let table = checked.runs;
+            let rows = table.rows;
+            let n = sheet::row_numbers(table.count);
+            search(&rows[..n], image, pagefile, from)
+        }
+    }
+}
+
+// The same of a case whose sheet was read: an image of whole pages.
+fn search(rows: &[u64], image: &[u8], pagefile: &[u8], from: u64) -> Answer
+    requires { ⌜ length (now image) % 4096 ≡ 0 ⌝ }
+    ensures { λ r. ⌜ Searches (now (rows .entry)) (now (image .entry)) (now (pagefile .entry)) from r ⌝ }
+{
+    let words = image.len() as u64 / 8;
+    let mut i = next_pair(image, words_before(from));
+    while i < words {
+        let o = 8 * i;
+        if words_fit(image, o) {
+            let own = words::word_at(image, o + 0x18);
+            let directory = Frame::numbered(words::word_at(image, o + 0x1D0) / 4096 % 68719476736);
+            let found = walk::resolve_in(rows, image, pagefile, directory, own);
+            let entries = found.entries;
+            let place = found.place;
+            if is_at(place, o) {
+                return Answer {
+                    number: 1,
+                    offset: o,
+                    entries,
+                };
+            }
+        }
+        i = next_pair(image, i + 1);
+    }
+    address::refuse(Refusal::NoProcessorBlock)
+}
+
+// How many words begin before an offset.
+fn words_before(from: u64) -> u64
+    ensures { λ r. ⌜ r ≡ (from + 7) / 8 ⌝ }
+{
+    if from % 8 == 0 {
+        return from / 8;
+    }
+    from / 8 + 1
+}
+
+// Past words that begin no block: to the first whose Self is 0x180 less than the word behind, or to the last few.
+fn next_pair(image: &[u8], from: u64) -> u64
+    ensures { λ r. ⌜ NoneFit (now (image .entry)) from r ⌝ }
+{
+    let words = image.len() as u64 / 8;
+    if words < 4 {
+        return from;
+    }
+    let pairs = words - 4;
+    let mut i = from;
+    while i < pairs {
+        let own = words::word_at(image, 8 * i + 0x18);
+        let prcb = words::word_at(image, 8 * i + 0x20);
+        if std::num::wrapping_add_u64(own, 0x180) == prcb {
+            return i;
+        }
+        i += 1;
+    }
+    i
+}
+
+// Are the place in the page and the three words those of a block?
+fn words_fit(image: &[u8], o: u64) -> bool
+    requires { ⌜ (o < length (now image)) × (length (now image) % 4096 ≡ 0) ⌝ }
+    ensures { λ r. ⌜ r ≡ wordsFit (now (image .entry)) o ⌝ }
+{
+    if 0xE28 < o % 4096 {
+        return false;
+    }
+    let own = words::word_at(image, o + 0x18);
+    if own <= 0xFFFF000000000000 {
+        return false;
+    }
+    let prcb = words::word_at(image, o + 0x20);
+    if prcb <= 0xFFFF000000000000 {
+        return false;
+    }
+    if prcb - 0x180 != own {
+        return false;
+    }
+    words::word_at(image, o + 0x1D0) / 281474976710656 % 16 == 0
+}
+
+fn is_at(place: Place, o: u64) -> bool
+    ensures { λ r. ⌜ r ≡ isAt o place ⌝ }
+{
+    match place {
+        Place::Image(p) => p == o,
+        Place::Pagefile(_) => false,
+        Place::Zeros => false,
+        Place::Refused(_) => false,
+    }
+}
