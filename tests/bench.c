@@ -1,233 +1,218 @@
-/* Compares the exported calls and the walk on a parsed case with the same work in C, on the same data, in one execution. */
-#define _GNU_SOURCE
-#include <stdint.h>
+/* Compares the exported calls, and the walk on a parsed case, with the same calls in C and with memcpy, on the same data. */
 #include <stdio.h>
 #include <stdlib.h>
 #include <string.h>
 #include <time.h>
 
-#include "../host/glintloom.h"
+#include "bench_c.h"
+#include "bench_case.h"
 
-uint64_t bench_walk_pages(const uint64_t *rows, size_t rows_length, const uint8_t *image, size_t image_length,
-                          const uint8_t *pagefile, size_t pagefile_length, uint64_t directory, uint64_t start, uint64_t pages);
-uint64_t bench_walk_one(const uint64_t *rows, size_t rows_length, const uint8_t *image, size_t image_length,
-                        const uint8_t *pagefile, size_t pagefile_length, uint64_t directory, uint64_t address);
+enum { ADDRESSES = 1 << 16, SMALL_READS = 1 << 12, LARGE_READS = 1 << 8, SMALL = 64, LARGE = 1 << 16, LISTS = 16 };
+enum { WALK_TURNS = 15, SEARCH_TURNS = 7 };
 
-enum { FRAMES = 16384, PAGES = 1 << 20 };
+#define OUT_BYTES ((size_t)16 << 20)
 
-static uint8_t *image;
-static uint64_t rows[96];
-static size_t run_count;
-static uint8_t sheet[1024];
-static size_t sheet_length;
-static const uint64_t image_length = (uint64_t)FRAMES * 4096;
+/* One side of the comparison. */
+struct calls {
+    __typeof__(bench_walk_pages) *walk_pages;
+    __typeof__(bench_walk_one) *walk_one;
+    __typeof__(glint_resolve) *resolve;
+    __typeof__(glint_read) *read;
+    __typeof__(glint_map) *map;
+    __typeof__(glint_processor_block) *processor_block;
+    __typeof__(glint_process_list) *process_list;
+};
 
-static uint64_t random_state = 88172645463325252u;
-static uint64_t next_random(void) {
-    random_state ^= random_state << 13;
-    random_state ^= random_state >> 7;
-    random_state ^= random_state << 17;
-    return random_state;
+static const struct calls exported = {bench_walk_pages, bench_walk_one,        glint_resolve,     glint_read,
+                                      glint_map,        glint_processor_block, glint_process_list};
+static const struct calls in_c = {c_walk_pages, c_walk_one, c_resolve, c_read, c_map, c_processor_block, c_process_list};
+
+static const uint8_t no_pagefile[1];
+static uint64_t random_addresses[ADDRESSES];
+static uint64_t unexpected; /* answers of another number than the work has */
+
+#define CASE(c) (c)->sheet, (c)->sheet_length, (c)->image, (c)->image_length, no_pagefile, 0
+#define PARSED(c) (c)->rows, 3 * (c)->run_count, (c)->image, (c)->image_length
+
+/* ---- the work; each hands back a sum of its answers */
+
+static uint64_t sum_of(glint_answer answer, uint64_t number) {
+    unexpected += answer.number != number;
+    return answer.number + answer.offset + answer.entries;
 }
 
-static void put_number(uint64_t n) {
-    for (; n >= 128; n /= 128) sheet[sheet_length++] = (uint8_t)(128 + n % 128);
-    sheet[sheet_length++] = (uint8_t)n;
+static uint64_t walk_consecutive(const struct calls *call, const struct bench_case *c, uint8_t *out) {
+    (void)out;
+    return call->walk_pages(PARSED(c), no_pagefile, 0, 0, 0, MAPPED_PAGES);
 }
 
-/* Runs of equal length, one frame apart; frame_of is the frame of an image page. */
-static void make_runs(size_t count) {
-    run_count = count;
-    sheet_length = 0;
-    put_number(1);
-    put_number(0);
-    put_number(count);
-    for (size_t i = 0; i < count; i++) {
-        uint64_t pages = FRAMES / count;
-        rows[3 * i] = i * (pages + 1);
-        rows[3 * i + 1] = rows[3 * i] + pages;
-        rows[3 * i + 2] = i;
-        put_number(i != 0);
-        put_number(pages);
-    }
-}
-static uint64_t frame_of(uint64_t page) { return page + page / (FRAMES / run_count); }
-
-static void put_entry(uint64_t page, uint64_t index, uint64_t to) {
-    uint64_t entry = frame_of(to) << 12 | 1;
-    memcpy(image + page * 4096 + index * 8, &entry, 8);
-}
-
-/* Tables for 2^20 pages: 1 + 1 + 4 + 2,048 of them, in random order among the frames behind the first. */
-static void make_tables(void) {
-    static uint64_t order[FRAMES];
-    for (uint64_t i = 0; i < FRAMES; i++) order[i] = i;
-    for (uint64_t i = FRAMES - 1; i > 1; i--) {
-        uint64_t j = 1 + next_random() % i, t = order[i];
-        order[i] = order[j];
-        order[j] = t;
-    }
-    memset(image, 0, image_length);
-    put_entry(0, 0, order[1]);
-    for (uint64_t i = 0; i < 4; i++) put_entry(order[1], i, order[2 + i]);
-    for (uint64_t i = 0; i < 2048; i++) put_entry(order[2 + i / 512], i % 512, order[6 + i]);
-    for (uint64_t i = 0; i < PAGES; i++) put_entry(order[6 + i / 512], i % 512, order[next_random() % FRAMES]);
-}
-
-/* ---- the same in C */
-
-static uint64_t c_page(uint64_t frame) {
-    for (size_t i = 0; i < 3 * run_count; i += 3)
-        if (rows[i] <= frame && frame < rows[i + 1]) {
-            uint64_t page = frame - rows[i + 2];
-            return page < image_length / 4096 ? page : UINT64_MAX;
-        }
-    return UINT64_MAX;
-}
-
-static uint64_t c_walk(uint64_t directory, uint64_t a) {
-    uint64_t high = a >> 47, frame = directory;
-    if (high != 0 && high != 0x1FFFF) return 0;
-    for (int low = 39;; low -= 9) {
-        uint64_t page = c_page(frame), entry;
-        if (page == UINT64_MAX) return 0;
-        memcpy(&entry, image + page * 4096 + ((a >> low) & 511) * 8, 8);
-        if (!(entry & 1) || (entry >> 48 & 15)) return 0;
-        frame = entry >> 12 & 0xFFFFFFFFF;
-        if (low == 12) break;
-        if ((entry & 128) && (low == 30 || low == 21)) {
-            uint64_t small = ((uint64_t)1 << (low - 12)) - 1;
-            frame = (frame & ~small) | (a >> 12 & small);
-            break;
-        }
-    }
-    uint64_t page = c_page(frame);
-    return page == UINT64_MAX ? 0 : page * 4096 + (a & 4095);
-}
-
-__attribute__((noinline)) static uint64_t c_walk_pages(uint64_t directory, uint64_t start, uint64_t pages) {
+static uint64_t walk_random(const struct calls *call, const struct bench_case *c, uint8_t *out) {
     uint64_t sum = 0;
-    for (uint64_t i = 0; i < pages; i++) sum += c_walk(directory, start + 4096 * i);
+    (void)out;
+    for (int i = 0; i < ADDRESSES; i++) sum += call->walk_one(PARSED(c), no_pagefile, 0, 0, random_addresses[i]);
     return sum;
 }
-__attribute__((noinline)) static uint64_t c_walk_one(uint64_t directory, uint64_t a) { return c_walk(directory, a); }
 
-__attribute__((noinline)) static uint64_t c_read(uint64_t a, uint64_t n, uint8_t *out) {
-    for (uint64_t i = 0; i < n;) {
-        uint64_t m = 4096 - (a + i) % 4096;
-        if (n - i < m) m = n - i;
-        memcpy(out + i, image + c_walk(0, a + i), m);
-        i += m;
+static uint64_t resolve_consecutive(const struct calls *call, const struct bench_case *c, uint8_t *out) {
+    uint64_t sum = 0;
+    (void)out;
+    for (uint64_t i = 0; i < ADDRESSES; i++) sum += sum_of(call->resolve(CASE(c), PAGE_BYTES * i), 1);
+    return sum;
+}
+
+static uint64_t resolve_random(const struct calls *call, const struct bench_case *c, uint8_t *out) {
+    uint64_t sum = 0;
+    (void)out;
+    for (int i = 0; i < ADDRESSES; i++) sum += sum_of(call->resolve(CASE(c), random_addresses[i]), 1);
+    return sum;
+}
+
+static uint64_t resolve_checked(const struct bench_case *c, uint8_t *out) {
+    uint64_t sum = 0;
+    (void)out;
+    for (int i = 0; i < ADDRESSES; i++) sum += sum_of(c_resolve_checked(PARSED(c), 0, random_addresses[i]), 1);
+    return sum;
+}
+
+static uint64_t read_random(const struct calls *call, const struct bench_case *c, uint8_t *out, int reads, uint64_t n) {
+    uint64_t sum = 0;
+    for (int i = 0; i < reads; i++) {
+        glint_bytes bytes = call->read(CASE(c), random_addresses[i] / 2, n, out, OUT_BYTES);
+        unexpected += bytes.number != 0;
+        sum += bytes.length + out[0] + out[n - 1];
     }
-    return n;
+    return sum;
 }
 
-/* The layout of a map: numbers in groups of seven bits; pages of one code, and for code 1 of consecutive file pages, in one extent. */
-static size_t c_number(uint8_t *out, size_t size, size_t at, uint64_t n) {
-    for (; n >= 128; n /= 128, at++)
-        if (at < size) out[at] = (uint8_t)(128 + n % 128);
-    if (at < size) out[at] = (uint8_t)n;
-    return at + 1;
+static uint64_t read_small(const struct calls *call, const struct bench_case *c, uint8_t *out) {
+    return read_random(call, c, out, SMALL_READS, SMALL);
 }
 
-static size_t c_map_pass(uint64_t start, uint64_t pages, uint8_t *out, size_t size) {
-    size_t at = c_number(out, size, 0, 1);
-    at = c_number(out, size, at, start >> 12 & 0xFFFFFFFFF);
-    at = c_number(out, size, at, pages);
-    uint64_t length = 0, first = 0;
-    for (uint64_t i = 0; i <= pages; i++) {
-        uint64_t page = i < pages ? c_walk(0, start + 4096 * i) / 4096 : 0;
-        if (length && i < pages && page == first + length) {
-            length++;
-            continue;
-        }
-        if (length) {
-            at = c_number(out, size, at, 1);
-            at = c_number(out, size, at, length);
-            at = c_number(out, size, at, first);
-        }
-        length = 1;
-        first = page;
+static uint64_t read_large(const struct calls *call, const struct bench_case *c, uint8_t *out) {
+    return read_random(call, c, out, LARGE_READS, LARGE);
+}
+
+static uint64_t map_all(const struct calls *call, const struct bench_case *c, uint8_t *out) {
+    glint_written map = call->map(CASE(c), 0, MAPPED_PAGES, out, OUT_BYTES);
+    unexpected += map.number != 0;
+    return map.length;
+}
+
+static uint64_t list_nodes(const struct calls *call, const struct bench_case *c, uint8_t *out) {
+    uint64_t sum = 0;
+    for (int i = 0; i < LISTS; i++) {
+        glint_written list = call->process_list(CASE(c), c->list_head, (uint64_t *)(void *)out, LIST_NODES);
+        unexpected += list.number != 0 || list.length != LIST_NODES;
+        sum += list.length;
     }
-    return at;
+    return sum;
 }
 
-__attribute__((noinline)) static uint64_t c_map(uint64_t start, uint64_t pages, uint8_t *out, size_t size) {
-    size_t length = c_map_pass(start, pages, out, 0);
-    if (length > size) return 0;
-    return c_map_pass(start, pages, out, size);
+static uint64_t search_block(const struct calls *call, const struct bench_case *c, uint8_t *out) {
+    (void)out;
+    return sum_of(call->processor_block(CASE(c), 0), 55);
+}
+
+/* ---- memcpy of the bytes that the work has to go through */
+
+static void copy_large(const struct bench_case *c, uint8_t *out) {
+    for (int i = 0; i < LARGE_READS; i++) {
+        memcpy(out, c->image + random_addresses[i] % (c->image_length - LARGE), LARGE);
+        __asm__ volatile("" ::: "memory");
+    }
+}
+
+static void copy_image(const struct bench_case *c, uint8_t *out) {
+    memcpy(out, c->image, c->image_length);
+    __asm__ volatile("" ::: "memory");
 }
 
 /* ---- measuring */
 
+struct work {
+    const char *name;
+    double units; /* what the name's "a .." counts */
+    uint64_t (*run)(const struct calls *call, const struct bench_case *c, uint8_t *out);
+    void (*copy)(const struct bench_case *c, uint8_t *out);      /* NULL: memcpy is not the limit */
+    uint64_t (*other)(const struct bench_case *c, uint8_t *out); /* the C side, where it is not `run` */
+};
+
+static const struct work walk_works[] = {
+    {"walk on a parsed case, consecutive, one call, a page", MAPPED_PAGES, walk_consecutive, NULL, NULL},
+    {"walk on a parsed case, random, a call", ADDRESSES, walk_random, NULL, NULL},
+    {"address, consecutive pages, a call", ADDRESSES, resolve_consecutive, NULL, NULL},
+    {"address, random, a call", ADDRESSES, resolve_random, NULL, NULL},
+    {"address, random, a call; C does not check the sheet", ADDRESSES, resolve_random, NULL, resolve_checked},
+    {"read of 64 bytes, random, a call", SMALL_READS, read_small, NULL, NULL},
+    {"read of 64 KiB, random, a call", LARGE_READS, read_large, copy_large, NULL},
+    {"map of 2^20 pages, a page", MAPPED_PAGES, map_all, NULL, NULL},
+    {"process list of 4,096 nodes, a node", (double)LISTS * LIST_NODES, list_nodes, NULL, NULL},
+};
+
+static const struct work search_works[] = {
+    {"processor block, 256 MiB of zeros, a page", SEARCH_IMAGE_BYTES / PAGE_BYTES, search_block, copy_image, NULL},
+    {"processor block, 256 MiB with kernel addresses, a page", SEARCH_IMAGE_BYTES / PAGE_BYTES, search_block, copy_image, NULL},
+};
+
 static double seconds(void) {
     struct timespec t;
     clock_gettime(CLOCK_MONOTONIC, &t);
-    return t.tv_sec + t.tv_nsec * 1e-9;
+    return (double)t.tv_sec + (double)t.tv_nsec * 1e-9;
 }
 
-static uint64_t addresses[1 << 16];
-static uint8_t buffer[1 << 16];
-static uint8_t map_buffer[1 << 24];
-static const uint8_t none[1];
+static uint8_t *outs[3]; /* of the exports, of C, of memcpy */
 
-static uint64_t run(int what, int ours) {
-    uint64_t sum = 0;
-    switch (what) {
-    case 0:
-        return ours ? bench_walk_pages(rows, 3 * run_count, image, image_length, none, 0, 0, 0, PAGES) : c_walk_pages(0, 0, PAGES);
-    case 1:
-        for (int i = 0; i < 1 << 16; i++)
-            sum += ours ? bench_walk_one(rows, 3 * run_count, image, image_length, none, 0, 0, addresses[i]) : c_walk_one(0, addresses[i]);
-        return sum;
-    case 2:
-        for (int i = 0; i < 1 << 16; i++)
-            sum += ours ? glint_resolve(sheet, sheet_length, image, image_length, none, 0, addresses[i]).offset : c_walk_one(0, addresses[i]);
-        return sum;
-    case 3:
-        for (int i = 0; i < 1 << 12; i++)
-            sum += ours ? glint_read(sheet, sheet_length, image, image_length, none, 0, addresses[i], 64, buffer, sizeof buffer).length
-                        : c_read(addresses[i], 64, buffer);
-        return sum;
-    case 4:
-        for (int i = 0; i < 1 << 8; i++)
-            sum += ours ? glint_read(sheet, sheet_length, image, image_length, none, 0, addresses[i] / 2, sizeof buffer, buffer, sizeof buffer).length
-                        : c_read(addresses[i] / 2, sizeof buffer, buffer);
-        return sum;
-    default:
-        return ours ? glint_map(sheet, sheet_length, image, image_length, none, 0, 0, PAGES, map_buffer, sizeof map_buffer).length
-                    : c_map(0, PAGES, map_buffer, sizeof map_buffer);
+/* The time and the sum of one side: 0 the exports, 1 C, 2 memcpy. */
+static double time_side(const struct work *work, const struct bench_case *c, int side, uint64_t *sum) {
+    double start = seconds();
+    if (side == 0) *sum = work->run(&exported, c, outs[0]);
+    if (side == 1) *sum = work->other ? work->other(c, outs[1]) : work->run(&in_c, c, outs[1]);
+    if (side == 2) work->copy(c, outs[2]);
+    return seconds() - start;
+}
+
+/* Prints a row: the best of some turns, in which the sides take turns. */
+static void measure(const struct work *work, const struct bench_case *c, int turns) {
+    double best[3] = {1e9, 1e9, 1e9};
+    uint64_t sums[3] = {0, 0, 0};
+    int sides = work->copy ? 3 : 2;
+    unexpected = 0;
+    for (int turn = 0; turn < turns; turn++)
+        for (int side = 0; side < sides; side++) {
+            double time = time_side(work, c, side, &sums[side]);
+            if (time < best[side]) best[side] = time;
+        }
+    if (unexpected || sums[0] != sums[1] || memcmp(outs[0], outs[1], OUT_BYTES)) {
+        printf("%s: the answers are not as expected, or differ\n", work->name);
+        exit(1);
     }
+    double ns = 1e9 / work->units;
+    printf("%-56s %4zu %10.1f %10.1f %7.2f", work->name, c->run_count, best[0] * ns, best[1] * ns, best[0] / best[1]);
+    if (work->copy) printf(" %10.1f %11.2f", best[2] * ns, best[0] / best[2]);
+    printf("\n");
+    fflush(stdout);
 }
 
 int main(void) {
-    static const char *const names[] = {"walk on a parsed case, 2^20 consecutive pages, one call", "walk on a parsed case, random, a call each",
-                                        "address call (checks the sheet), random", "read of 64 bytes, random", "read of 64 KiB, random", "map of 2^20 pages, each page"};
-    static const double counts[] = {PAGES, 1 << 16, 1 << 16, 1 << 12, 1 << 8, PAGES};
-    image = aligned_alloc(4096, image_length);
-    if (!image) return 1;
-    printf("%-58s %5s %10s %10s %6s\n", "", "runs", "ours ns", "C ns", "ratio");
-    for (size_t runs = 1; runs <= 32; runs *= 32) {
-        make_runs(runs);
-        make_tables();
-        for (int i = 0; i < 1 << 16; i++) addresses[i] = next_random() % ((uint64_t)PAGES * 4096);
-        for (int what = 0; what < 6; what++) {
-            double best[2] = {1e9, 1e9};
-            uint64_t sums[2] = {0, 0};
-            for (int turn = 0; turn < 9; turn++)
-                for (int ours = 0; ours < 2; ours++) {
-                    double t = seconds();
-                    sums[ours] = run(what, ours);
-                    t = seconds() - t;
-                    if (t < best[ours]) best[ours] = t;
-                }
-            if (sums[0] != sums[1]) {
-                printf("%s: the sums differ\n", names[what]);
-                return 1;
-            }
-            printf("%-58s %5zu %10.1f %10.1f %6.2f\n", names[what], runs, best[1] / counts[what] * 1e9, best[0] / counts[what] * 1e9, best[1] / best[0]);
-        }
+    struct bench_case c = {0};
+    uint8_t *image = aligned_alloc(PAGE_BYTES, SEARCH_IMAGE_BYTES);
+    for (int side = 0; side < 3; side++) {
+        size_t bytes = side == 2 ? SEARCH_IMAGE_BYTES : OUT_BYTES;
+        outs[side] = aligned_alloc(PAGE_BYTES, bytes);
+        if (!image || !outs[side]) return 1;
+        memset(outs[side], 0, bytes);
+    }
+    printf("%-56s %4s %10s %10s %7s %10s %11s\n", "", "runs", "ours, ns", "C, ns", "ours/C", "memcpy, ns", "ours/memcpy");
+    for (size_t runs = 1; runs <= MOST_RUNS; runs *= MOST_RUNS) {
+        make_walk_case(&c, image, runs);
+        for (int i = 0; i < ADDRESSES; i++) random_addresses[i] = next_random() % ((uint64_t)MAPPED_PAGES * PAGE_BYTES);
+        for (size_t i = 0; i < sizeof walk_works / sizeof *walk_works; i++) measure(&walk_works[i], &c, WALK_TURNS);
+    }
+    for (size_t i = 0; i < sizeof search_works / sizeof *search_works; i++) {
+        make_search_case(&c, image, i == 0);
+        measure(&search_works[i], &c, SEARCH_TURNS);
     }
     free(image);
+    for (int side = 0; side < 3; side++) free(outs[side]);
     return 0;
 }
