@@ -1,0 +1,52 @@
+#include "hex_dump.h"
+
+#include <inttypes.h>
+#include <stdio.h>
+#include <string.h>
+
+enum {
+    ROW_BYTES = 16,
+    HALF_ROW = 8,
+    BYTES_AT = 18,                            /* behind the address and two blanks */
+    TEXT_AT = BYTES_AT + 3 * ROW_BYTES + 2,   /* a blank between the halves, one before the text */
+    ROW_END = TEXT_AT + ROW_BYTES + 2
+};
+
+static const char digits[] = "0123456789ABCDEF";
+
+static void put_byte(char *at, uint8_t byte)
+{
+    at[0] = digits[byte >> 4];
+    at[1] = digits[byte & 15];
+}
+
+static void print_row(uint64_t address, const uint8_t *bytes, size_t count)
+{
+    char row[ROW_END];
+    memset(row, ' ', sizeof row);
+    for (int i = 0; i < 8; i++)
+        put_byte(row + 2 * i, (uint8_t)(address >> (56 - 8 * i)));
+    row[TEXT_AT] = '|';
+    for (size_t i = 0; i < count; i++) {
+        put_byte(row + BYTES_AT + 3 * i + (i >= HALF_ROW), bytes[i]);
+        row[TEXT_AT + 1 + i] = bytes[i] >= ' ' && bytes[i] <= '~' ? (char)bytes[i] : '.';
+    }
+    row[TEXT_AT + 1 + count] = '|';
+    fwrite(row, 1, TEXT_AT + 2 + count, stdout);
+    putchar('\n');
+}
+
+void print_hex_dump(uint64_t address, const uint8_t *bytes, size_t length)
+{
+    for (size_t at = 0; at < length; at += ROW_BYTES)
+        print_row(address + at, bytes + at, length - at < ROW_BYTES ? length - at : ROW_BYTES);
+}
+
+void print_hex_digits(const uint8_t *bytes, size_t length)
+{
+    char pair[2];
+    for (size_t i = 0; i < length; i++) {
+        put_byte(pair, bytes[i]);
+        fwrite(pair, 1, sizeof pair, stdout);
+    }
+}

@@ -1,0 +1,14 @@
+/* Bytes in hex on standard output. */
+#ifndef HEX_DUMP_H
+#define HEX_DUMP_H
+
+#include <stddef.h>
+#include <stdint.h>
+
+/* Lines of an address, 16 bytes and the same bytes as ASCII. */
+void print_hex_dump(uint64_t address, const uint8_t *bytes, size_t length);
+
+/* Two digits a byte and nothing between. */
+void print_hex_digits(const uint8_t *bytes, size_t length);
+
+#endif

@@ -1,0 +1,103 @@
+#include "mapped_file.h"
+
+#include "fail.h"
+#include "output_file.h"
+#include "progress.h"
+
+#include <errno.h>
+#include <fcntl.h>
+#include <signal.h>
+#include <string.h>
+#include <sys/mman.h>
+#include <unistd.h>
+
+enum { MOST_FILES = 3 };
+
+static struct {
+    const char *name;
+    struct mapped_file file;
+    int descriptor;
+    struct stat status;    /* as it was mapped */
+} mapped[MOST_FILES];
+static int mapped_count;
+
+static void write_message(const char *text)
+{
+    ssize_t written = write(STDERR_FILENO, text, strlen(text));
+    (void)written;
+}
+
+/* SIGBUS: a page of a mapped file that the file no longer has, or that its disk does not give. */
+static void end_for_lost_page(int signal_number, siginfo_t *info, void *context)
+{
+    uintptr_t fault = (uintptr_t)info->si_addr;
+    (void)context;
+    for (int i = 0; i < mapped_count; i++) {
+        uintptr_t start = (uintptr_t)mapped[i].file.bytes;
+        if (fault < start || fault - start >= mapped[i].file.length)
+            continue;
+        end_progress();
+        discard_unfinished_output();
+        write_message("glintloom: ");
+        write_message(mapped[i].name);
+        write_message(": was cut short, or its disk failed, while it was read\n");
+        _exit(FAILED);
+    }
+    signal(signal_number, SIG_DFL);
+}
+
+static void watch_for_lost_pages(void)
+{
+    struct sigaction action = {.sa_sigaction = end_for_lost_page, .sa_flags = SA_SIGINFO};
+    sigaction(SIGBUS, &action, NULL);
+}
+
+struct mapped_file map_file(const char *name)
+{
+    struct mapped_file file = {NULL, 0};
+    struct stat status;
+    /* O_NONBLOCK: a pipe must not hold up the open before it is refused. */
+    int descriptor = open(name, O_RDONLY | O_NONBLOCK | O_CLOEXEC);
+    if (descriptor < 0 || fstat(descriptor, &status) != 0)
+        fail("%s: %s", name, strerror(errno));
+    if (!S_ISREG(status.st_mode))
+        fail("%s: not a regular file", name);
+    if ((uintmax_t)status.st_size > SIZE_MAX)
+        fail("%s: too large to map", name);
+    if (status.st_size > 0) {
+        void *bytes = mmap(NULL, (size_t)status.st_size, PROT_READ, MAP_PRIVATE, descriptor, 0);
+        if (bytes == MAP_FAILED)
+            fail("%s: %s", name, strerror(errno));
+        file.bytes = bytes;
+        file.length = (size_t)status.st_size;
+    }
+    mapped[mapped_count].name = name;
+    mapped[mapped_count].file = file;
+    mapped[mapped_count].descriptor = descriptor;
+    mapped[mapped_count].status = status;
+    mapped_count++;
+    watch_for_lost_pages();
+    return file;
+}
+
+void check_mapped_files(void)
+{
+    for (int i = 0; i < mapped_count; i++) {
+        const struct stat *then = &mapped[i].status;
+        struct stat now;
+        if (fstat(mapped[i].descriptor, &now) != 0)
+            fail("%s: %s", mapped[i].name, strerror(errno));
+        if (now.st_size < then->st_size)
+            fail("%s: was cut short while it was read", mapped[i].name);
+        if (now.st_mtim.tv_sec != then->st_mtim.tv_sec || now.st_mtim.tv_nsec != then->st_mtim.tv_nsec)
+            fail("%s: was changed while it was read", mapped[i].name);
+    }
+}
+
+bool is_mapped_file(const struct stat *status)
+{
+    for (int i = 0; i < mapped_count; i++)
+        if (mapped[i].status.st_dev == status->st_dev && mapped[i].status.st_ino == status->st_ino)
+            return true;
+    return false;
+}

@@ -1,0 +1,279 @@
+#include "report.h"
+
+#include "fail.h"
+#include "glintloom.h"
+#include "hex_dump.h"
+#include "progress.h"
+
+#include <errno.h>
+#include <inttypes.h>
+#include <stdio.h>
+#include <string.h>
+#include <unistd.h>
+
+static bool json;
+static const char *verb_reported;
+static bool report_open;  /* JSON: the document has begun */
+static bool comma_due;    /* JSON: something stands before in this object or array */
+static bool line_open;    /* lines: the item's line has no end yet */
+
+const char *words_of(uint64_t number)
+{
+#define WORDS(name, value, words) case value: return words;
+    switch (number) {
+        GLINT_ANSWERS(WORDS)
+        GLINT_REFUSALS(WORDS)
+    }
+#undef WORDS
+    return NULL;
+}
+
+bool is_refusal(uint64_t number)
+{
+    return number >= GLINT_FIRST_REFUSAL;
+}
+
+static void check_output(bool written)
+{
+    if (!written || ferror(stdout))
+        fail("standard output: %s", strerror(errno));
+}
+
+static void put_comma(void)
+{
+    if (comma_due)
+        putchar(',');
+    comma_due = true;
+}
+
+static void put_name(const char *name)
+{
+    put_comma();
+    printf("\"%s\":", name);
+}
+
+static void put_json_text(const char *text)
+{
+    putchar('"');
+    for (; *text; text++) {
+        if (*text == '\n')
+            fputs("\\n", stdout);
+        else if (*text == '"' || *text == '\\')
+            printf("\\%c", *text);
+        else
+            putchar(*text);
+    }
+    putchar('"');
+}
+
+static void put_json_hex(const char *name, uint64_t value)
+{
+    put_name(name);
+    printf("\"0x%" PRIX64 "\"", value);
+}
+
+static void put_json_count(const char *name, uint64_t value)
+{
+    put_name(name);
+    printf("%" PRIu64, value);
+}
+
+static void open_json(char bracket)
+{
+    putchar(bracket);
+    comma_due = false;
+}
+
+static void close_json(char bracket)
+{
+    putchar(bracket);
+    comma_due = true;
+}
+
+static void close_line(void)
+{
+    if (line_open)
+        putchar('\n');
+    line_open = false;
+}
+
+void begin_report(const char *verb, bool as_json)
+{
+    verb_reported = verb;
+    json = as_json;
+}
+
+/* Begins the document with the first answer, so that wrong use leaves standard output empty. */
+static void open_report(void)
+{
+    if (isatty(STDOUT_FILENO))
+        end_progress();
+    if (report_open || !json)
+        return;
+    report_open = true;
+    open_json('{');
+    put_name("verb");
+    put_json_text(verb_reported);
+    put_name("answers");
+    open_json('[');
+}
+
+void end_report(void)
+{
+    open_report();
+    if (json)
+        fputs("]}\n", stdout);
+    check_output(fflush(stdout) == 0 && close(STDOUT_FILENO) == 0);
+}
+
+static void put_number(uint64_t number)
+{
+    const char *words = words_of(number);
+    put_json_count("number", number);
+    put_name("words");
+    put_json_text(words ? words : "unknown number");
+}
+
+void begin_item(const char *asked_name, uint64_t asked, uint64_t number)
+{
+    open_report();
+    if (json) {
+        put_comma();
+        open_json('{');
+        put_json_hex(asked_name, asked);
+        put_number(number);
+        return;
+    }
+    const char *words = words_of(number);
+    close_line();
+    printf("0x%016" PRIX64 "  %2" PRIu64 " %s%s", asked, number, is_refusal(number) ? "refused: " : "",
+           words ? words : "unknown number");
+    line_open = true;
+}
+
+void add_offset(uint64_t number, uint64_t offset)
+{
+    if (json)
+        put_json_hex("offset", offset);
+    else if (number == GLINT_IN_IMAGE || number == GLINT_IN_PAGEFILE)
+        printf(", offset 0x%" PRIX64, offset);
+}
+
+void add_entries(uint64_t entries)
+{
+    if (json)
+        put_json_count("entries", entries);
+    else
+        printf(", %" PRIu64 " %s read", entries, entries == 1 ? "entry" : "entries");
+}
+
+void add_length(uint64_t bytes)
+{
+    if (json)
+        put_json_hex("length", bytes);
+    else
+        printf(", 0x%" PRIX64 " %s", bytes, bytes == 1 ? "byte" : "bytes");
+}
+
+static void put_json_nodes(const uint64_t *nodes, uint64_t count)
+{
+    put_name("nodes");
+    open_json('[');
+    for (uint64_t i = 0; i < count; i++) {
+        put_comma();
+        printf("\"0x%" PRIX64 "\"", nodes[i]);
+    }
+    close_json(']');
+}
+
+void add_nodes(const uint64_t *nodes, uint64_t count)
+{
+    if (json) {
+        put_json_nodes(nodes, count);
+        return;
+    }
+    printf(", %" PRIu64 " %s", count, count == 1 ? "node" : "nodes");
+    close_line();
+    for (uint64_t i = 0; i < count; i++)
+        printf("0x%016" PRIX64 "\n", nodes[i]);
+}
+
+void end_item(void)
+{
+    if (json)
+        close_json('}');
+    close_line();
+}
+
+void begin_items(const char *name)
+{
+    if (json) {
+        put_name(name);
+        open_json('[');
+    }
+}
+
+void end_items(void)
+{
+    if (json)
+        close_json(']');
+}
+
+void add_dump(uint64_t address, const uint8_t *bytes, size_t length)
+{
+    close_line();
+    if (!json)
+        print_hex_dump(address, bytes, length);
+    check_output(true);
+}
+
+void add_digits(const uint8_t *bytes, size_t length)
+{
+    if (!json)
+        return;
+    put_name("bytes");
+    putchar('"');
+    print_hex_digits(bytes, length);
+    putchar('"');
+}
+
+void end_answer(void)
+{
+    end_item();
+    count_answer();
+    check_output(fflush(stdout) == 0);
+}
+
+void report_number(uint64_t number)
+{
+    open_report();
+    if (json) {
+        put_comma();
+        open_json('{');
+        put_number(number);
+    } else {
+        printf("%2" PRIu64 " %s", number, words_of(number));
+        line_open = true;
+    }
+    end_answer();
+}
+
+void report_text(const char *text)
+{
+    open_report();
+    if (!json) {
+        fputs(text, stdout);
+        return;
+    }
+    put_comma();
+    open_json('{');
+    put_name("text");
+    put_json_text(text);
+    end_answer();
+}
+
+void warn_of_zeros(uint64_t address)
+{
+    end_progress();
+    fprintf(stderr, "glintloom: 0x%016" PRIX64 ": %s\n", address, words_of(GLINT_ZEROS));
+}

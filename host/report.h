@@ -1,0 +1,43 @@
+/* Answers on standard output, as lines or as one JSON document {"verb": .., "answers": [..]}. In JSON, addresses, offsets
+ * and lengths in bytes are strings in hex, so that 64 bits survive; numbers and counts of entries stand as they are. */
+#ifndef REPORT_H
+#define REPORT_H
+
+#include <stdbool.h>
+#include <stddef.h>
+#include <stdint.h>
+
+/* The words of a number, or NULL if no answer has it. */
+const char *words_of(uint64_t number);
+bool is_refusal(uint64_t number);
+
+void begin_report(const char *verb, bool json);
+void end_report(void);
+
+/* An item: what was asked, the number and its words, and what is added. It is a line with lines below it, or an object. */
+void begin_item(const char *asked_name, uint64_t asked, uint64_t number);
+void add_offset(uint64_t number, uint64_t offset);
+void add_entries(uint64_t entries);
+void add_length(uint64_t bytes);
+void add_nodes(const uint64_t *nodes, uint64_t count);
+void end_item(void);
+
+/* Items of the item at hand. */
+void begin_items(const char *name);
+void end_items(void);
+
+/* Bytes, as lines of a hex dump only, or as digits of a JSON string only. */
+void add_dump(uint64_t address, const uint8_t *bytes, size_t length);
+void add_digits(const uint8_t *bytes, size_t length);
+
+/* The end of an outermost item, which is handed on at once. */
+void end_answer(void);
+
+/* Outermost items of their own form: a number with its words, and a text. */
+void report_number(uint64_t number);
+void report_text(const char *text);
+
+/* Tells on standard error that a page is one of zeros. */
+void warn_of_zeros(uint64_t address);
+
+#endif

@@ -1,0 +1,69 @@
+"""The shared library, called by its header's records. A case is the bytes of sheet, image and pagefile."""
+import ctypes
+
+from program import BUILT
+
+U64, SIZE = ctypes.c_uint64, ctypes.c_size_t
+
+# Numbers of the record that each call hands back.
+RETURNS = {
+    "glint_resolve": 3,
+    "glint_page": 3,
+    "glint_read": 3,
+    "glint_map": 2,
+    "glint_lookup": 2,
+    "glint_processor_block": 3,
+    "glint_process_list": 2,
+}
+
+
+def record(numbers):
+    return type(f"Record{numbers}", (ctypes.Structure,), {"_fields_": [(f"field{k}", U64) for k in range(numbers)]})
+
+
+def slices(*parts):
+    """Each as pointer, then length."""
+    return [argument for part in parts for argument in (part, SIZE(len(part)))]
+
+
+class Library:
+    def __init__(self):
+        self.loaded = ctypes.CDLL(str(BUILT / "libglintloom.so"))
+        for name, numbers in RETURNS.items():
+            getattr(self.loaded, name).restype = record(numbers)
+
+    def call(self, name, parts, *numbers):
+        """The record's numbers; what follows the slices is a number or a buffer."""
+        rest = [U64(number) if isinstance(number, int) else number for number in numbers]
+        answer = getattr(self.loaded, name)(*slices(*parts), *rest)
+        return tuple(getattr(answer, field) for field, _ in answer._fields_)
+
+    def resolve(self, case, address):
+        return self.call("glint_resolve", case, address)
+
+    def page(self, case, address):
+        return self.call("glint_page", case, address)
+
+    def read(self, case, address, n):
+        """Number, bytes and whether one came from a page of zeros."""
+        room = (ctypes.c_uint8 * n)()
+        number, length, zeros = self.call("glint_read", case, address, n, room, SIZE(n))
+        return number, bytes(room[:length]), zeros
+
+    def map(self, case, start, pages):
+        """Number and bytes."""
+        room = (ctypes.c_uint8 * (10 + 8 * pages))()
+        number, length = self.call("glint_map", case, start, pages, room, SIZE(len(room)))
+        return number, bytes(room[:length])
+
+    def lookup(self, content, address):
+        return self.call("glint_lookup", [content], address)
+
+    def processor_block(self, case, start):
+        return self.call("glint_processor_block", case, start)
+
+    def process_list(self, case, head):
+        """Number and nodes."""
+        room = (U64 * 4096)()
+        number, length = self.call("glint_process_list", case, head, room, SIZE(len(room)))
+        return number, list(room[:length])

@@ -1,0 +1,231 @@
+"""Wrong use, files that cannot be had, and standard output that cannot be written: exit status 2 and a clear line."""
+import os
+import pty
+import subprocess
+import time
+
+from cases import shipped_case
+from program import ANSWERED, ENVIRONMENT, FAILED, ROOT, Conversation, HostTest, command, run
+
+NO_NUMBERS = ("", "x", "0x", "-1", "+1", " 1", "1 ", "0x1G", "0b1", "1.5", "12abc", "0x-1", "1,000", "0x1 0x2", "ff")
+TOO_LARGE = ("18446744073709551616", "0x10000000000000000", "99999999999999999999999999", "0x1" + "0" * 40)
+
+# Each verb that takes a case, with numbers that it takes.
+CASE_VERBS = {
+    "resolve": ["0"],
+    "page": ["0"],
+    "read": ["0", "1"],
+    "map": ["0", "1"],
+    "processor-block": [],
+    "list": ["0"],
+}
+
+
+def run_closed(redirections, *words):
+    """Runs with standard descriptors closed by the shell."""
+    shell = ["sh", "-c", f'exec "$@" {redirections}', "sh"]
+    return subprocess.run(shell + command(*words), capture_output=True, env=ENVIRONMENT)
+
+
+class WrongUse(HostTest):
+    def setUp(self):
+        super().setUp()
+        self.case = shipped_case(self.directory).words()
+
+    def test_no_words(self):
+        shown = run()
+        self.assertEqual((shown.returncode, shown.stdout, shown.stderr), (FAILED, b"", run("help").stdout))
+
+    def test_unknown_words(self):
+        self.fails(["resolv"], "no verb 'resolv'")
+        self.fails([""], "no verb ''")
+        self.fails(["resolve", *self.case, "--jsn", "0"], "no option '--jsn'")
+        self.fails(["resolve", *self.case, "-5"], "no option '-5'")
+
+    def test_options_of_other_verbs(self):
+        self.fails(["resolve", *self.case, "0", "-o", "out"], "resolve takes no -o")
+        self.fails(["lookup", "--no-pagefile", "map", "0"], "lookup takes no --no-pagefile")
+        self.fails(["list", "--all", *self.case, "0"], "list takes no --all")
+        self.fails(["help", "--all"], "help takes no --all")
+
+    def test_counts_of_operands(self):
+        for words in (
+            ["resolve"],
+            ["resolve", *self.case[:2]],
+            ["resolve", "--no-pagefile", self.case[0]],
+            ["page", *self.case[:2]],
+            ["read", *self.case],
+            ["read", *self.case, "0"],
+            ["map", *self.case, "0"],
+            ["list", *self.case],
+            ["lookup"],
+        ):
+            self.fails(words, "too few operands")
+        for words in (
+            ["read", *self.case, "0", "1", "2"],
+            ["map", *self.case, "0", "1", "2"],
+            ["list", *self.case, "0", "8"],
+            ["processor-block", *self.case, "0", "8"],
+            ["help", "resolve"],
+        ):
+            self.fails(words, "too many operands")
+
+    def test_output_option(self):
+        self.fails(["page", *self.case, "0xB38000", "-o"], "-o takes one file")
+        self.fails(["page", *self.case, "0xB38000", "-o", "a", "-o", "b"], "-o takes one file")
+        self.fails(["page", *self.case, "-o", "a"], "-o takes exactly one address", input=b"0xB38000\n")
+        self.fails(["page", *self.case, "0xB38000", "0xB38000", "-o", "a"], "-o takes exactly one address")
+
+    def test_numbers(self):
+        for text in NO_NUMBERS + TOO_LARGE:
+            message = "no option" if text.startswith("-") else "no number in hex"
+            self.fails(["resolve", *self.case, text], message)
+            self.fails(["resolve", *self.case, "--", text], "no number in hex")
+            self.fails(["read", *self.case, "--", "0", text], "no number in hex")
+            self.fails(["explain", "--", text], "no number in hex")
+
+    def test_a_wrong_number_stops_all(self):
+        self.fails(["resolve", *self.case, "0xB38000", "junk"], "'junk': no number in hex")
+
+    def test_numbers_on_input(self):
+        for text in NO_NUMBERS + TOO_LARGE + ("0x10\0", "0x1" + " " * 200 + "junk", "0" * 200):
+            if text.strip(" ") not in ("", "1"):
+                self.fails(["resolve", *self.case], "standard input, line 2: no number", input=f"\n{text}\n".encode())
+
+    def test_answers_before_a_wrong_line_stand(self):
+        shown = run("resolve", *self.case, input=b"0xB38000\njunk\n0xB38000\n")
+        self.assertEqual(shown.returncode, FAILED)
+        self.assertEqual(shown.stdout, b"0x0000000000B38000   3 page of zeros, by the tables, 4 entries read\n")
+        self.assertIn(b"standard input, line 2: no number", shown.stderr)
+
+    def test_no_pagefile_is_not_a_name(self):
+        self.fails(["resolve", *self.case[:2], "none", "0"], "none: No such file or directory", cwd=self.directory)
+        self.fails(["resolve", *self.case, "--no-pagefile", "0"], "no number in hex")
+
+
+class InputFiles(HostTest):
+    def setUp(self):
+        super().setUp()
+        self.case = shipped_case(self.directory).words()
+
+    def each_place(self, name, message):
+        """The same name for each of the files that a verb takes."""
+        for place in range(3):
+            words = list(self.case)
+            words[place] = name
+            for verb, numbers in CASE_VERBS.items():
+                self.fails([verb, *words, *numbers], message)
+                self.fails([verb, "--json", *words, *numbers], message)
+        self.fails(["lookup", name, "0"], message)
+
+    def test_missing(self):
+        self.each_place(self.directory / "missing", "missing: No such file or directory")
+
+    def test_directory(self):
+        self.each_place(self.directory, "not a regular file")
+
+    def test_pipe_and_device(self):
+        os.mkfifo(self.directory / "pipe")
+        self.each_place(self.directory / "pipe", "not a regular file")
+        self.each_place("/dev/null", "not a regular file")
+
+    def test_unreadable(self):
+        self.case[1].chmod(0)
+        self.fails(["resolve", *self.case, "0"], "image: Permission denied", **self.as_nobody())
+
+    def test_closed_input(self):
+        """No file takes the descriptor of a closed standard input."""
+        shown = run_closed("<&-", "resolve", *self.case)
+        self.assertEqual((shown.returncode, shown.stdout), (FAILED, b""))
+        self.assertEqual(shown.stderr, b"glintloom: standard input: Bad file descriptor\n")
+
+    def test_directory_as_input(self):
+        descriptor = os.open(self.directory, os.O_RDONLY)
+        self.addCleanup(os.close, descriptor)
+        self.fails(["resolve", *self.case], "standard input: Is a directory", stdin=descriptor)
+
+
+class StandardOutput(HostTest):
+    def setUp(self):
+        super().setUp()
+        self.case = shipped_case(self.directory).words()
+        self.commands = (
+            ["resolve", *self.case, "0xB38000"],
+            ["resolve", "--json", *self.case, "0xB38000"],
+            ["page", *self.case, "0x777B0000"],
+            ["read", *self.case, "0x777B0000", "0x1000"],
+            ["map", *self.case, "0xB34000", "1"],
+            ["processor-block", *self.case],
+            ["list", *self.case, "0"],
+            ["explain"],
+            ["help"],
+        )
+
+    def test_full_disk(self):
+        with open("/dev/full", "wb") as full:
+            for words in self.commands:
+                self.fails(words, "standard output: No space left on device", stdout=full)
+
+    def test_closed_pipe(self):
+        for words in self.commands:
+            reader, writer = os.pipe()
+            os.close(reader)
+            self.fails(words, "standard output: Broken pipe", stdout=writer)
+            os.close(writer)
+
+    def test_closed_output(self):
+        for words in self.commands:
+            shown = run_closed(">&-", *words)
+            self.assertEqual(shown.returncode, FAILED)
+            self.assertIn(b"standard output: Bad file descriptor", shown.stderr)
+
+    def test_closed_output_leaves_the_file_alone(self):
+        """No file takes the descriptor of a closed standard output."""
+        shown = run_closed(">&- 2>&- <&-", "page", *self.case, "0x777B0000", "-o", self.directory / "page")
+        self.assertEqual(shown.returncode, FAILED)
+        self.assertEqual((self.directory / "page").read_bytes(), self.case[1].read_bytes()[0x5000:0x6000])
+
+    def test_pipe_closed_between_addresses(self):
+        talk = Conversation("resolve", *self.case)
+        self.assertIn(b"page of zeros", talk.ask(b"0xB38000"))
+        talk.child.stdout.close()
+        status, _, error = talk.end(b"0xB38000")
+        self.assertEqual((status, error), (FAILED, b"glintloom: standard output: Broken pipe\n"))
+
+
+class Progress(HostTest):
+    """Shown on a terminal from the first second on, never in a pipe."""
+
+    def setUp(self):
+        super().setUp()
+        self.case = shipped_case(self.directory).words()
+        self.reader, self.writer = pty.openpty()
+        self.addCleanup(os.close, self.reader)
+
+    def test_on_a_terminal(self):
+        talk = Conversation("resolve", *self.case, stderr=self.writer)
+        talk.ask(b"0xB38000")
+        shown = os.read(self.reader, 4096)
+        self.assertEqual(talk.end(b"0xB38000")[0], ANSWERED)
+        os.close(self.writer)
+        self.assertRegex(shown + os.read(self.reader, 4096), rb"\A(\rglintloom: [1-9] s, 1 answered)+\r\x1b\[K\Z")
+
+    def test_not_in_a_pipe(self):
+        talk = Conversation("resolve", *self.case)
+        talk.ask(b"0xB38000")
+        time.sleep(1.3)
+        status, _, error = talk.end(b"0xB38000")
+        self.assertEqual((status, error), (ANSWERED, b""))
+
+    def test_not_for_short_work(self):
+        subprocess.run(command("help"), stdout=subprocess.DEVNULL, stderr=self.writer, env=ENVIRONMENT, check=True)
+        os.write(self.writer, b"end")
+        os.close(self.writer)
+        self.assertEqual(os.read(self.reader, 4096), b"end")
+
+
+class ManualPage(HostTest):
+    def test_names_every_verb_and_option(self):
+        text = (ROOT / "host" / "glintloom.1").read_text()
+        for word in (*CASE_VERBS, "lookup", "explain", "help", "--json", "--no-pagefile", "--all", "-o"):
+            self.assertIn(word.replace("-", "\\-"), text)

@@ -1,0 +1,260 @@
+"""Every verb: what it prints for answers and for refusals."""
+from cases import PAGE, RING_PAGES, SHIPPED, Memory, make_case
+from cases import block_case, list_case, printed_machine, ring_case, shipped_case
+from expected import REFUSALS, SHIPPED_MAP, WORDS, done, dump, place, shipped_answers, shipped_lines
+from program import ANSWERED, REFUSED, HostTest, run
+
+class Resolve(HostTest):
+    def setUp(self):
+        super().setUp()
+        self.case = shipped_case(self.directory).words()
+
+    def test_shipped_case_is_what_make_case_makes(self):
+        for name in ("sheet", "image", "pagefile"):
+            self.assertEqual((SHIPPED / name).read_bytes(), getattr(make_case, name)())
+
+    def test_every_shipped_address(self):
+        addresses = [hex(answer[0]) for answer in shipped_answers()]
+        self.says(["resolve", *self.case, *addresses], REFUSED, shipped_lines())
+
+    def test_each_alone_with_its_status(self):
+        for answer, line in zip(shipped_answers(), shipped_lines()):
+            self.says(["resolve", *self.case, answer[0]], REFUSED if answer[1] >= 10 else ANSWERED, [line])
+
+    def test_addresses_from_input(self):
+        text = "".join(f"{answer[0]:#x}\n" for answer in shipped_answers())
+        self.says(["resolve", *self.case], REFUSED, shipped_lines(), input=text.encode())
+
+    def test_forms_of_numbers(self):
+        words = ["0xb35fff", "0XB35FFF", "11755519", "00011755519", "0x0000000000B35FFF", "0x0000000000000000B35FFF"]
+        lines = [place(0xB35FFF, 2, 0x1FFF, 4)] * len(words)
+        self.says(["resolve", *self.case, *words], ANSWERED, lines)
+        text = " \t" + "\t \r\n\n  \n".join(words)
+        self.says(["resolve", *self.case], ANSWERED, lines, input=text.encode())
+
+    def test_ends_of_64_bits(self):
+        words = ["0", "0xFFFFFFFFFFFFFFFF", "18446744073709551615"]
+        lines = [place(0, 22, 0, 4)] + [place(2**64 - 1, 21, 0, 1)] * 2
+        self.says(["resolve", *self.case, *words], REFUSED, lines)
+
+    def test_no_address_on_input(self):
+        self.says(["resolve", *self.case], ANSWERED, [], input=b"")
+        self.says(["resolve", *self.case], ANSWERED, [], input=b"\n\n")
+
+    def test_without_pagefile(self):
+        lines = [place(0xB35000, 27, 0, 4), place(0xB37008, 1, 0x5008, 4)]
+        self.says(["resolve", *self.case[:2], "--no-pagefile", "0xB35000", "0xB37008"], REFUSED, lines)
+        empty = self.write("empty", b"")
+        self.says(["resolve", *self.case[:2], empty, "0xB35000", "0xB37008"], REFUSED, lines)
+
+    def test_options_may_stand_anywhere(self):
+        self.says(["resolve", "--no-pagefile", *self.case[:2], "0xB37008"], ANSWERED, [place(0xB37008, 1, 0x5008, 4)])
+        dashed = self.write("-image", self.case[1].read_bytes())
+        words = ["resolve", "--no-pagefile", "--", self.case[0], dashed.name, "0xB37008"]
+        self.says(words, ANSWERED, [place(0xB37008, 1, 0x5008, 4)], cwd=self.directory)
+
+    def test_refused_cases(self):
+        sheet, image, pagefile = self.case
+        empty, longer = self.write("empty", b""), self.write("longer", pagefile.read_bytes() + b"x")
+        for case, number in (
+            ((empty, image, pagefile), 10),
+            ((sheet, empty, pagefile), 15),
+            ((sheet, image, longer), 16),
+            ((empty, empty, empty), 10),
+        ):
+            self.says(["resolve", *case, "0xB35000"], REFUSED, [place(0xB35000, number, 0, 0)])
+
+
+class PageAndRead(HostTest):
+    def setUp(self):
+        super().setUp()
+        self.files = shipped_case(self.directory)
+        self.case = self.files.words()
+        self.image_page = self.files.image.read_bytes()[5 * PAGE : 6 * PAGE]
+
+    def test_page_of_image_and_pagefile(self):
+        lines = [place(0x777B0000, 1, 0x5000, 9)] + dump(0x777B0000, self.image_page)
+        self.says(["page", *self.case, "0x777B0123"], ANSWERED, lines)
+        content = self.files.pagefile.read_bytes()[PAGE:]
+        self.says(["page", *self.case, "0xB35FFF"], ANSWERED, [place(0xB35000, 2, 0x1000, 4)] + dump(0xB35000, content))
+
+    def test_page_of_zeros_is_marked(self):
+        self.says(["page", *self.case, "0xB38001"], ANSWERED, [place(0xB38000, 3, 0, 4)] + dump(0xB38000, bytes(PAGE)))
+
+    def test_refused_page_prints_no_byte(self):
+        for address, number, entries in ((0x1D0000, 22, 4), (0xB10000, 25, 9), (0x800000000000, 20, 0)):
+            self.says(["page", *self.case, address], REFUSED, [place(address, number, 0, entries)])
+
+    def test_pages_from_input(self):
+        lines = [place(0xB38000, 3, 0, 4)] + dump(0xB38000, bytes(PAGE)) + [place(0x1D0000, 22, 0, 4)]
+        self.says(["page", *self.case], REFUSED, lines, input=b"0xB38001\n0x1D0000\n")
+
+    def test_read_in_one_page(self):
+        lines = [done(0x777B0000, "0x80 bytes"), place(0x777B0000, 1, 0x5000, 9)] + dump(0x777B0000, make_case.MZ[:128])
+        self.says(["read", *self.case, "0x777B0000", "128"], ANSWERED, lines)
+
+    def test_read_of_an_odd_part(self):
+        lines = [done(0x777B004E, "0x27 bytes"), place(0x777B004E, 1, 0x504E, 9)]
+        lines += dump(0x777B004E, make_case.MZ[0x4E:0x75])
+        self.says(["read", *self.case, "0x777B004E", "0x27"], ANSWERED, lines)
+        lines = [done(0x777B0000, "0x1 byte"), place(0x777B0000, 1, 0x5000, 9)] + dump(0x777B0000, b"M")
+        self.says(["read", *self.case, "0x777B0000", "1"], ANSWERED, lines)
+
+    def test_read_of_every_byte_value(self):
+        memory, content = Memory(8), bytes(range(256))
+        offset = memory.map_page(0x5000)
+        memory.bytes[offset : offset + 256] = content
+        case = memory.write(self.directory).words()
+        lines = [done(0x5000, "0x100 bytes"), place(0x5000, 1, offset, 4)] + dump(0x5000, content)
+        self.says(["read", *case, "0x5000", "256"], ANSWERED, lines)
+
+    def test_read_over_pages_marks_those_of_zeros(self):
+        lines = [done(0xB37FF8, "0xC bytes"), place(0xB37FF8, 1, 0x5FF8, 4)] + dump(0xB37FF8, bytes(8))
+        lines += [place(0xB38000, 3, 0, 4)] + dump(0xB38000, bytes(4))
+        self.says(["read", *self.case, "0xB37FF8", "12"], ANSWERED, lines)
+
+    def test_read_to_the_last_byte_of_a_page(self):
+        lines = [done(0xB38FF0, "0x10 bytes"), place(0xB38FF0, 3, 0, 4)] + dump(0xB38FF0, bytes(16))
+        self.says(["read", *self.case, "0xB38FF0", "16"], ANSWERED, lines)
+
+    def test_refused_read_prints_no_byte(self):
+        self.says(["read", *self.case, "0xB38FF0", "17"], REFUSED, [place(0xB38FF0, 22)])
+        self.says(["read", *self.case, "0x1D0000", "1"], REFUSED, [place(0x1D0000, 22)])
+        self.says(["read", *self.case, "0x800000000000", "1"], REFUSED, [place(0x800000000000, 20)])
+
+    def test_read_of_nothing(self):
+        self.says(["read", *self.case, "0x800000000000", "0"], ANSWERED, [done(0x800000000000, "0x0 bytes")])
+
+    def test_read_longer_than_memory(self):
+        for length in ("0xFFFFFFFFFFFFFFFF", "0x7FFFFFFFFFFFFFFF"):
+            self.fails(["read", *self.case, "0x1D0000", length], "not enough memory")
+
+
+class MapAndLookup(HostTest):
+    def setUp(self):
+        super().setUp()
+        self.case = shipped_case(self.directory).words()
+
+    def test_map_in_lines(self):
+        lines = [done(0xB34000, "0x27 bytes")] + dump(0, SHIPPED_MAP)
+        self.says(["map", *self.case, "0xB34000", "16"], ANSWERED, lines)
+
+    def test_lookup_answers_as_resolve(self):
+        path = self.write("map", SHIPPED_MAP)
+        answers = [answer for answer in shipped_answers() if 0xB34000 <= answer[0] < 0xB44000]
+        self.assertGreater(len(answers), 10)
+        addresses = [answer[0] for answer in answers]
+        self.says(["lookup", path, *addresses], REFUSED, [place(*answer[:3]) for answer in answers])
+        text = "".join(f"{address}\n" for address in addresses)
+        self.says(["lookup", path], REFUSED, [place(*answer[:3]) for answer in answers], input=text.encode())
+
+    def test_lookup_refusals(self):
+        path = self.write("map", SHIPPED_MAP)
+        lines = [place(0xB44000, 41), place(0x800000000000, 20)]
+        self.says(["lookup", path, "0xB44000", "0x800000000000"], REFUSED, lines)
+        for content, number in (
+            (b"", 10),
+            (SHIPPED_MAP[:-1], 10),
+            (b"\x80\x00", 11),
+            (b"\x02", 12),
+            (SHIPPED_MAP + b"\0", 14),
+            (b"\1\0\1\4", 43),
+        ):
+            self.says(["lookup", self.write("map", content), "0xB34000"], REFUSED, [place(0xB34000, number)])
+
+    def test_paper_map(self):
+        path = self.write("map", bytes.fromhex("01901603010205 1601"))
+        self.says(["lookup", path, "0xB11ABC", "0xB12000"], REFUSED, [place(0xB11ABC, 1, 0x6ABC), place(0xB12000, 22)])
+
+    def test_refused_ranges(self):
+        past_a_half = (0x7FFFFFFFF000, 2), (0x800000000000, 1)
+        for start, pages in ((0xB34001, 1), (0xB34000, 0), (0, RING_PAGES + 1), (0, 2**64 - 1), *past_a_half):
+            self.says(["map", *self.case, start, pages], REFUSED, [place(start, 40)])
+
+    def test_longest_range(self):
+        files, expected = ring_case(self.directory)
+        out = self.directory / "map"
+        lines = [done(0, f"0x{len(expected):X} bytes")]
+        self.says(["map", *files.words(), "0", RING_PAGES, "-o", out], ANSWERED, lines)
+        self.assertEqual(out.read_bytes(), expected)
+
+
+class BlocksAndLists(HostTest):
+    def test_processor_block(self):
+        files, (first, second) = block_case(self.directory)
+        case = files.words()
+        self.says(["processor-block", *case], ANSWERED, [place(0, 1, first, 4)])
+        self.says(["processor-block", *case, first], ANSWERED, [place(first, 1, first, 4)])
+        self.says(["processor-block", *case, first + 1], ANSWERED, [place(first + 1, 1, second, 4)])
+        self.says(["processor-block", *case, second + 1], REFUSED, [place(second + 1, 55, 0, 0)])
+        self.says(["processor-block", *case, "0xFFFFFFFFFFFFFFFF"], REFUSED, [place(2**64 - 1, 55, 0, 0)])
+
+    def test_all_processor_blocks(self):
+        files, (first, second) = block_case(self.directory)
+        case = files.words()
+        lines = [place(0, 1, first, 4), place(first + 1, 1, second, 4)]
+        self.says(["processor-block", "--all", *case], ANSWERED, lines)
+        self.says(["processor-block", "--all", *case, second + 1], REFUSED, [place(second + 1, 55, 0, 0)])
+
+    def test_processor_block_of_a_refused_case(self):
+        files, _ = block_case(self.directory)
+        files.sheet.write_bytes(b"")
+        self.says(["processor-block", "--all", *files.words()], REFUSED, [place(0, 10, 0, 0)])
+
+    def test_list(self):
+        for nodes in (0, 1, 2, 300, 4096):
+            files, (head, *rest) = list_case(self.directory, nodes)
+            count = f"{nodes} node" + ("" if nodes == 1 else "s")
+            lines = [done(head, count)] + [f"0x{node:016X}" for node in rest]
+            self.says(["list", *files.words(), head], ANSWERED, lines)
+
+    def test_refused_lists(self):
+        files, (head, *_) = list_case(self.directory, 4097)
+        case = files.words()
+        self.says(["list", *case, head], REFUSED, [place(head, 52)])
+        self.says(["list", *case, head + 4], REFUSED, [place(head + 4, 50)])
+        self.says(["list", *case, head + 8], REFUSED, [place(head + 8, 51)])
+        self.says(["list", *case, "0x1000"], REFUSED, [place(0x1000, 21)])
+        files.sheet.write_bytes(b"\x80\x00")
+        self.says(["list", *case, head], REFUSED, [place(head, 11)])
+
+
+class ExplainAndHelp(HostTest):
+    def test_every_number(self):
+        lines = [f"{number:2} {words}" for number, words in WORDS.items()]
+        self.says(["explain"], ANSWERED, lines)
+        for number, line in zip(WORDS, lines):
+            self.says(["explain", number], ANSWERED, [line])
+        self.says(["explain", "0x16", "10"], ANSWERED, ["22 region record needed", f"10 {REFUSALS[10]}"])
+
+    def test_numbers_that_no_answer_has(self):
+        for number in (4, 9, 17, 30, 42, 46, 54, 56, 99, 2**32 + 22, 2**64 - 1):
+            self.fails(["explain", number], f"no answer has the number {number}")
+        self.fails(["explain", 22, 99], "99")
+
+    def test_help(self):
+        for word in ("help", "--help", "-h"):
+            shown = run(word)
+            self.assertEqual((shown.returncode, shown.stderr), (ANSWERED, b""))
+            for verb in ("resolve", "page", "read", "map", "lookup", "processor-block", "list", "explain", "help"):
+                self.assertIn(f"\nglintloom {verb} ", shown.stdout.decode())
+            self.assertIn("\nExit status: 0 answered; 1 refused", shown.stdout.decode())
+
+
+class PrintedMachine(HostTest):
+    """Document 002's machine: 1 GiB of image and its pagefile, sparse."""
+
+    def test_worked_addresses(self):
+        case = printed_machine(self.directory).words()
+        lines = [
+            place(0xB34000, 2, 0x296A2000, 4),
+            place(0x777B0000, 1, 0x2312C000, 9),
+            place(0xB10000, 25, 0, 9),
+            place(0x1D0000, 22, 0, 4),
+        ]
+        self.says(["resolve", *case, "0xB34000", "0x777B0000", "0xB10000", "0x1D0000"], REFUSED, lines)
+        lines = [done(0xB34000, "0x10 bytes"), place(0xB34000, 2, 0x296A2000, 4)]
+        lines += dump(0xB34000, bytes([4, 0, 0, 0, 0, 0, 0, 0]) * 2)
+        self.says(["read", *case, "0xB34000", "16"], ANSWERED, lines)
+        lines = [done(0x777B0000, "0x80 bytes"), place(0x777B0000, 1, 0x2312C000, 9)] + dump(0x777B0000, make_case.MZ)
+        self.says(["read", *case, "0x777B0000", "0x80"], ANSWERED, lines)
