@@ -175,6 +175,14 @@ void add_length(uint64_t bytes)
         printf(", 0x%" PRIX64 " %s", bytes, bytes == 1 ? "byte" : "bytes");
 }
 
+void add_refused_address(uint64_t address)
+{
+    if (json)
+        put_json_hex("refused_address", address);
+    else
+        printf(", first at 0x%016" PRIX64, address);
+}
+
 static void put_json_nodes(const uint64_t *nodes, uint64_t count)
 {
     put_name("nodes");

@@ -19,6 +19,7 @@ void begin_item(const char *asked_name, uint64_t asked, uint64_t number);
 void add_offset(uint64_t number, uint64_t offset);
 void add_entries(uint64_t entries);
 void add_length(uint64_t bytes);
+void add_refused_address(uint64_t address);
 void add_nodes(const uint64_t *nodes, uint64_t count);
 void end_item(void);
 

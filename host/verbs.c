@@ -171,6 +171,26 @@ static struct read_range resolve_pages(const struct case_files *files, uint64_t 
     return range;
 }
 
+/* The first address of a refused read that is refused by itself; false for a fault of the case, and past the top. */
+static bool first_refused(const struct case_files *files, uint64_t number, struct read_range range, uint64_t *refused)
+{
+    if (number < GLINT_NOT_CANONICAL)
+        return false;
+    for (uint64_t page = 0;; page++) {
+        uint64_t first = first_byte(&range, page);
+        if (first < range.address)
+            return false;
+        if (first - range.address >= range.length)
+            fail_for_changed_files();
+        glint_answer answer = glint_resolve(SLICES(*files), first);
+        *refused = first;
+        if (is_refusal(answer.number) && answer.number != number)
+            fail_for_changed_files();
+        if (is_refusal(answer.number))
+            return true;
+    }
+}
+
 static void report_read_pages(const struct read_range *range, const uint8_t *bytes, bool dump)
 {
     begin_items("pages");
@@ -197,7 +217,9 @@ int read_verb(const struct command *command)
     uint64_t address = command->numbers[0], length = command->numbers[1];
     uint8_t *bytes = allocate(length, 1);
     glint_bytes read = glint_read(SLICES(files), address, length, bytes, (size_t)length);
-    struct read_range range = {address, 0, 0, NULL};
+    struct read_range range = {address, length, 0, NULL};
+    uint64_t refused = address;
+    bool at_address = is_refusal(read.number) && first_refused(&files, read.number, range, &refused);
     if (!is_refusal(read.number))
         range = resolve_pages(&files, address, read.length);
     check_mapped_files();
@@ -212,6 +234,8 @@ int read_verb(const struct command *command)
         if (command->output == NULL)
             add_digits(bytes, (size_t)read.length);
     }
+    if (at_address)
+        add_refused_address(refused);
     end_answer();
     free(range.pages);
     free(bytes);

@@ -97,6 +97,11 @@ class Damage:
         zeros = int(any(one["number"] == 3 for one in shown.get("pages", [])))
         answered = self.library.read(case, address, n)
         self.expect(("read", address, n), (shown["number"], shown_bytes(shown), zeros), answered)
+        if "refused_address" in shown:
+            refused = int(shown["refused_address"], 16)
+            self.expect(("read", address, n), self.library.resolve(case, refused)[0], shown["number"])
+            if refused > address:
+                self.expect(("read", address, n), self.library.read(case, address, refused - address)[0], 0)
 
     def map(self, case):
         start = self.address() // PAGE * PAGE

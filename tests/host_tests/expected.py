@@ -29,6 +29,11 @@ def place(address, number, offset=0, entries=None):
     return line
 
 
+def first_at(address):
+    """Behind the line of a refused read: the first address that is refused."""
+    return f", first at 0x{address:016X}"
+
+
 def done(asked, rest):
     return f"0x{asked:016X}   0 done, {rest}"
 

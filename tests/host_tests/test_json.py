@@ -42,7 +42,7 @@ class Json(HostTest):
         nothing = answer("address", 0, 0, length="0x0", pages=[], bytes="")
         self.assertEqual(self.answers("read", *self.case, "0", "0"), [nothing])
         refused = self.answers("read", *self.case, "0xB38FFF", "2", status=REFUSED)
-        self.assertEqual(refused, [answer("address", 0xB38FFF, 22)])
+        self.assertEqual(refused, [answer("address", 0xB38FFF, 22, refused_address="0xB39000")])
 
     def test_map_and_lookup(self):
         expected = answer("start", 0xB34000, 0, length="0x27", bytes=SHIPPED_MAP.hex().upper())

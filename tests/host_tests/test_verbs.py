@@ -1,7 +1,7 @@
 """Every verb: what it prints for answers and for refusals."""
 from cases import PAGE, RING_PAGES, SHIPPED, Memory, make_case
 from cases import block_case, list_case, printed_machine, ring_case, shipped_case
-from expected import REFUSALS, SHIPPED_MAP, WORDS, done, dump, place, shipped_answers, shipped_lines
+from expected import REFUSALS, SHIPPED_MAP, WORDS, done, dump, first_at, place, shipped_answers, shipped_lines
 from program import ANSWERED, REFUSED, HostTest, run
 
 class Resolve(HostTest):
@@ -117,10 +117,23 @@ class PageAndRead(HostTest):
         lines = [done(0xB38FF0, "0x10 bytes"), place(0xB38FF0, 3, 0, 4)] + dump(0xB38FF0, bytes(16))
         self.says(["read", *self.case, "0xB38FF0", "16"], ANSWERED, lines)
 
+    def refuses(self, address, length, line):
+        self.says(["read", *self.case, address, length], REFUSED, [line])
+
     def test_refused_read_prints_no_byte(self):
-        self.says(["read", *self.case, "0xB38FF0", "17"], REFUSED, [place(0xB38FF0, 22)])
-        self.says(["read", *self.case, "0x1D0000", "1"], REFUSED, [place(0x1D0000, 22)])
-        self.says(["read", *self.case, "0x800000000000", "1"], REFUSED, [place(0x800000000000, 20)])
+        self.refuses("0xB38FF0", "17", place(0xB38FF0, 22) + first_at(0xB39000))
+        self.refuses("0xB37FFF", "0x2000", place(0xB37FFF, 22) + first_at(0xB39000))
+        self.refuses("0x1D0123", "1", place(0x1D0123, 22) + first_at(0x1D0123))
+        self.refuses("0x800000000000", "1", place(0x800000000000, 20) + first_at(0x800000000000))
+
+    def test_read_past_the_top_has_no_refused_address(self):
+        memory = Memory(8)
+        memory.map_page(2**64 - PAGE)
+        case = memory.write(self.directory).words()
+        self.says(["read", *case, 2**64 - 1, "2"], REFUSED, [place(2**64 - 1, 20)])
+
+    def test_read_of_a_refused_case_has_no_refused_address(self):
+        self.says(["read", self.case[1], *self.case[1:], "0x777B0000", "1"], REFUSED, [place(0x777B0000, 12)])
 
     def test_read_of_nothing(self):
         self.says(["read", *self.case, "0x800000000000", "0"], ANSWERED, [done(0x800000000000, "0x0 bytes")])
