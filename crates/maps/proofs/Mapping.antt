@@ -22,6 +22,8 @@ use Rattle.walk.specs.Rows.{resolvedOf}
 use Rattle.walk.specs.declared.Resolved.{Resolved}
 use Rattle.walk.specs.declared.Place.{Place}
 use Rattle.walk.proofs.Ground.{Sound}
+use Rattle.address.specs.Address.{placeAnswer}
+use Rattle.address.specs.declared.Answer.{Answer}
 use Rattle.extents.specs.Extents.{PageAnswer, extentsOf}
 use Rattle.extents.specs.Answers.{page, Clean}
 use Rattle.extents.specs.Layout.{extentsBytes, mapBytes}
@@ -80,11 +82,11 @@ module _ {w : World} {start count : ℕ} {old : List ℕ} {b₀ : Builder} {i : 
       let r = in-range (allowed-range start count range) (start + 4096 * i) (omega arith) (omega arith) in
       clean-answer (resolveOf 3 w (start + 4096 * i) .place) (resolve-mapped w sound small 3 (start + 4096 * i) (r .reaches))
 
-  pub mapping-next : Sound w → length (w .image) ≤ 2 ^ 48 → allowed start count ≡ true → i < count → (v : Resolved) → v ≡ resolvedOf (resolveOf 3 w (start + 4096 * i)) → (c f : ℕ) → c ≡ pageAnswer (v .place) .code → f ≡ pageAnswer (v .place) .file
-      → (new : List ℕ) (b′ : Builder) → Fed out b (page c f ∷ []) new b′ → Mapping w start count old b₀ (i + 1) new b′
-  mapping-next sound small range h v e c f ec ef new b′ p =
+  pub mapping-next : Sound w → length (w .image) ≤ 2 ^ 48 → allowed start count ≡ true → i < count → (v : Resolved) → v ≡ resolvedOf (resolveOf 3 w (start + 4096 * i)) → (a : Answer) → a ≡ placeAnswer (v .place) (v .entries)
+      → (new : List ℕ) (b′ : Builder) → Fed out b (page (a .number) (a .offset / 4096) ∷ []) new b′ → Mapping w start count old b₀ (i + 1) new b′
+  mapping-next sound small range h v e a f new b′ p =
       let same-place : v .place ≡ resolveOf 3 w (start + 4096 * i) .place = ap (λ (z : Resolved). z .place) e in
-      let same : page c f ≡ pageAnswer (resolveOf 3 w (start + 4096 * i) .place) = rw (ec, ef, same-place) in
+      let same : page (a .number) (a .offset / 4096) ≡ pageAnswer (resolveOf 3 w (start + 4096 * i) .place) = rw (f, same-place) in
       let p′ : Fed out b (pageAnswer (resolveOf 3 w (start + 4096 * i) .place) ∷ []) new b′ = rw same at p in
       let clean = clean-at sound small range h in
       let k : count - i ≡ suc (count - (i + 1)) = omega arith in

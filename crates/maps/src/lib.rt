@@ -4,21 +4,14 @@ use base::Written;
 use entry::Frame;
 use extents::Builder;
 use sheet::Outcome;
-use walk::Place;
 ghost use mathlib.Core.Path.{_≡_};
 ghost use mathlib.Core.Bool.{true};
 ghost use Prim.Native.Nat.{_≤_, _^_};
 ghost use lib.ListN.{length};
 ghost use Rattle.varint.specs.Overlay.{Wrote};
 ghost use Rattle.walk.specs.Rows.{worldIn};
-ghost use Rattle.maps.specs.MapOf.{pageAnswer, headerBytes, mapOf, allowed, mapInWorld};
+ghost use Rattle.maps.specs.MapOf.{headerBytes, mapOf, allowed, mapInWorld};
 ghost use Rattle.maps.specs.Demand3.{MapAnswer};
-
-// The number of a page's answer and, for 1 and 2, the page of the file.
-pub struct PageCode {
-    pub code: u64,
-    pub file: u64,
-}
 
 // The map of a range into the lent buffer.
 pub fn map_range(
@@ -126,9 +119,8 @@ fn write_map(
     let mut i = 0;
     while i < pages {
         let found = walk::resolve_in(rows, image, pagefile, directory, start + 4096 * i);
-        let place = found.place;
-        let page = page_code(place);
-        builder = builder.push(out, page.code, page.file);
+        let page = address::answer_of(found);
+        builder = builder.push(out, page.number, page.offset / 4096);
         i += 1;
     }
     builder.finish(out)
@@ -142,24 +134,4 @@ fn write_header(start: u64, pages: u64, out: &mut [u8]) -> usize
     let a = varint::write_number(out, 0, 1);
     let b = varint::write_number(out, a, start / 4096 % 68719476736);
     varint::write_number(out, b, pages)
-}
-
-fn page_code(place: Place) -> PageCode
-    ensures { λ r. ⌜ (r .code ≡ pageAnswer place .code) × (r .file ≡ pageAnswer place .file) ⌝ }
-{
-    match place {
-        Place::Image(o) => PageCode {
-            code: 1,
-            file: o / 4096,
-        },
-        Place::Pagefile(o) => PageCode {
-            code: 2,
-            file: o / 4096,
-        },
-        Place::Zeros => PageCode { code: 3, file: 0 },
-        Place::Refused(fault) => PageCode {
-            code: fault.number(),
-            file: 0,
-        },
-    }
 }

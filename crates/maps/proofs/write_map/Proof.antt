@@ -30,20 +30,20 @@ add-resolve-in c = omega (arith, range-top (allowed-range _ _ (c .before .before
 resolve-in-requires : tie.Need-resolve-in-requires Inv-loop μ-loop
 resolve-in-requires c κs = search needs
 
-page-code-requires : tie.Need-page-code-requires Inv-loop μ-loop
-page-code-requires c κs = search needs
+answer-of-requires : tie.Need-answer-of-requires Inv-loop μ-loop
+answer-of-requires c κs = search needs
 
 push-requires : tie.Need-push-requires Inv-loop μ-loop
-push-requires c κs = mapping-fit (c .before .before .before .before .loop .inv) (c .before .before .before .loop-test .taken)
+push-requires c κs = mapping-fit (c .before .before .before .before .before .loop .inv) (c .before .before .before .before .loop-test .taken)
 
 add-i : tie.Need-add-i Inv-loop μ-loop
-add-i c = search needs
+add-i c = omega (arith, c .before .before .before .before .before .before .before .loop-test .taken, allowed-range _ _ (c .before .before .before .before .before .before .before .before .before .before .before .before .before .before .before .before .before .pre .0) .most)
 
 loop-less : tie.Need-loop-less Inv-loop μ-loop
 loop-less c = search needs
 
 loop-again : tie.Need-loop-again Inv-loop μ-loop
-loop-again c = mapping-next (c .before .before .before .before .before .before .before .loop .inv) (sound-rows (now (c .before .before .before .before .before .before .before .before .before .before .before .before .before .before .before .before .args .rows)) (c .before .before .before .before .before .before .before .before .before .before .before .before .before .before .before .before .args .directory) (now (c .before .before .before .before .before .before .before .before .before .before .before .before .before .before .before .before .args .image)) (now (c .before .before .before .before .before .before .before .before .before .before .before .before .before .before .before .before .args .pagefile))) (c .before .before .before .before .before .before .before .before .before .before .before .before .before .before .before .before .pre .1) (c .before .before .before .before .before .before .before .before .before .before .before .before .before .before .before .before .pre .0) (c .before .before .before .before .before .before .loop-test .taken) _ (c .before .before .before .before .before .resolve-in .ensures) _ _ (c .before .before .before .before .page-code .ensures .0) (c .before .before .before .before .page-code .ensures .1) _ _ (c .before .before .push .ensures)
+loop-again c = mapping-next (c .before .before .before .before .before .before .before .before .loop .inv) (sound-rows (now (c .before .before .before .before .before .before .before .before .before .before .before .before .before .before .before .before .before .args .rows)) (c .before .before .before .before .before .before .before .before .before .before .before .before .before .before .before .before .before .args .directory) (now (c .before .before .before .before .before .before .before .before .before .before .before .before .before .before .before .before .before .args .image)) (now (c .before .before .before .before .before .before .before .before .before .before .before .before .before .before .before .before .before .args .pagefile))) (c .before .before .before .before .before .before .before .before .before .before .before .before .before .before .before .before .before .pre .1) (c .before .before .before .before .before .before .before .before .before .before .before .before .before .before .before .before .before .pre .0) (c .before .before .before .before .before .before .before .loop-test .taken) _ (c .before .before .before .before .before .before .resolve-in .ensures) _ (c .before .before .before .before .before .answer-of .ensures) _ _ (c .before .before .push .ensures)
 
 finish-requires : tie.Need-finish-requires Inv-loop μ-loop
 finish-requires c κs = mapping-end (c .before .before .loop .inv) (c .before .loop-test .left)
@@ -65,7 +65,7 @@ write-map-spec =
     mul-resolve-in
     add-resolve-in
     resolve-in-requires
-    page-code-requires
+    answer-of-requires
     push-requires
     add-i
     loop-less
