@@ -1,3 +1,4 @@
 pub mod Decimal
 pub mod Laying
 pub mod Examples
+pub mod Reading

@@ -3,7 +3,7 @@ use libc::STDIN_FILENO;
 use libc::STDOUT_FILENO;
 ghost use mathlib.Core.Path.{_≡_};
 ghost use Prim.Native.Nat.{_+_, _≤_};
-ghost use lib.ListN.{length};
+ghost use lib.ListN.{length, take};
 ghost use lib.Seq.{sets};
 ghost use Rattle.varint.specs.Overlay.{Wrote};
 ghost use Rattle.address.specs.Address.{addressOf};
@@ -105,6 +105,7 @@ fn load_all(buf: &mut [u8]) -> Files
 fn load(argument: usize, buf: &mut [u8], at: usize) -> Loaded
     requires { ⌜ at ≤ length (now buf) ⌝ }
     ensures { λ r. ⌜ (at ≤ r .end) × (r .end ≤ length (now (buf .entry))) ⌝ }
+    ensures before { λ _. ⌜ take at (now (buf .exit)) ≡ take at (now (buf .entry)) ⌝ }
 {
     let mut path = io::buffer();
     let n = os::arg(argument, &mut path);
@@ -124,6 +125,7 @@ fn load(argument: usize, buf: &mut [u8], at: usize) -> Loaded
 fn read_all(fd: i32, buf: &mut [u8], at: usize) -> Loaded
     requires { ⌜ at ≤ length (now buf) ⌝ }
     ensures { λ r. ⌜ (at ≤ r .end) × (r .end ≤ length (now (buf .entry))) ⌝ }
+    ensures before { λ _. ⌜ take at (now (buf .exit)) ≡ take at (now (buf .entry)) ⌝ }
 {
     let mut end = at;
     while end < buf.len() {

@@ -8,15 +8,15 @@ use lib.ListN.{length, getD, length-append}
 use borrow.Author.Tests.{lt-ltb, le-ltb}
 use Rattle.base.specs.Notation.{if_then_else_}
 use Rattle.base.proofs.Test.{Test, test, below, above}
-use Rattle.extents.specs.Extents.{PageAnswer, carries, afterOf, extent, joins, glue, extentsOf, pageAt, pagesIn}
+use Rattle.extents.specs.Extents.{PageAnswer, carries, afterOf, extent, joins, joined, extentsOf, pageAt, pagesIn}
 use Rattle.extents.specs.Answers.{page, pageOf, Normal, Lengths, SameAnswer, AnswersAs}
 use Rattle.extents.specs.declared.Extent.{Extent}
 use Rattle.extents.proofs.Pages.{spread, expand, length-spread, extents-stretch, page-at}
 
-glue-length : (c n f : ℕ) (es : List Extent) → length (glue c n f es) ≤ suc (length es)
-unfolding glue
-glue-length c n f [] = omega arith
-glue-length c n f (e ∷ es) = go (joins (extent c n f) (e .code) (e .first))
+joined-length : (c n f : ℕ) (es : List Extent) → length (joined c n f es) ≤ suc (length es)
+unfolding joined
+joined-length c n f [] = omega arith
+joined-length c n f (e ∷ es) = go (joins (extent c n f) (e .code) (e .first))
   where
     go : (b : Bool) → length (if b then extent c (n + e .pages) f ∷ es else extent c n f ∷ e ∷ es) ≤ suc (length (e ∷ es))
     go true = omega arith
@@ -27,7 +27,7 @@ least : (es : List Extent) → Lengths es → length (extentsOf (expand es)) ≤
 least [] s = omega arith
 least (e ∷ es) s =
     rw (extents-stretch (e .code) (e .pages) (e .first) (expand es) (s .0))
-    (omega (arith, glue-length (e .code) (e .pages) (e .first) (extentsOf (expand es)), least es (s .1)))
+    (omega (arith, joined-length (e .code) (e .pages) (e .first) (extentsOf (expand es)), least es (s .1)))
 
 -- ---- file page 0 for codes other than 1 and 2
 abbrev zeroed : ℕ → ℕ → ℕ

@@ -11,7 +11,7 @@ use lib.Seq.{getD-append-add}
 use borrow.Author.Tests.{eq-eqb, eqb-true, lt-ltb, le-ltb}
 use Rattle.base.specs.Notation.{if_then_else_}
 use Rattle.base.proofs.Test.{Test, test, below, above}
-use Rattle.extents.specs.Extents.{PageAnswer, carries, afterOf, extent, joins, glue, extentsOf, pageAt, pagesIn}
+use Rattle.extents.specs.Extents.{PageAnswer, carries, afterOf, extent, joins, joined, extentsOf, pageAt, pagesIn}
 use Rattle.extents.specs.Answers.{page, pageOf}
 use Rattle.extents.specs.declared.Extent.{Extent}
 
@@ -51,14 +51,14 @@ joins-next : (c n f : ℕ) → joins (extent c n f) c (afterOf c n f) ≡ true
 joins-next c n f = rw (eq-eqb c c refl, eq-eqb (afterOf c n f) (afterOf c n f) refl)
 
 -- pages that follow make the extent longer
-pub glue-glue : (c n f m : ℕ) (es : List Extent) → glue c n f (glue c m (afterOf c n f) es) ≡ glue c (n + m) f es
-unfolding glue
-glue-glue c n f m [] = rw (joins-next c n f)
-glue-glue c n f m (e ∷ es) = go (joins (extent c m (afterOf c n f)) (e .code) (e .first)) (rw (after-add c n m f))
+pub joined-joined : (c n f m : ℕ) (es : List Extent) → joined c n f (joined c m (afterOf c n f) es) ≡ joined c (n + m) f es
+unfolding joined
+joined-joined c n f m [] = rw (joins-next c n f)
+joined-joined c n f m (e ∷ es) = go (joins (extent c m (afterOf c n f)) (e .code) (e .first)) (rw (after-add c n m f))
   where
     go : (b : Bool)
         → joins (extent c (n + m) f) (e .code) (e .first) ≡ b
-        → glue c n f (if b then extent c (m + e .pages) (afterOf c n f) ∷ es else extent c m (afterOf c n f) ∷ e ∷ es) ≡ glue c (n + m) f (e ∷ es)
+        → joined c n f (if b then extent c (m + e .pages) (afterOf c n f) ∷ es else extent c m (afterOf c n f) ∷ e ∷ es) ≡ joined c (n + m) f (e ∷ es)
     go true q = rw (q, joins-next c n f) (ap (λ (k : ℕ). extent c k f ∷ es) (omega arith))
     go false q = rw (q, joins-next c n f)
 
@@ -76,10 +76,10 @@ spread-add : (c n m f : ℕ) → spread c (n + m) f ≡ spread c n f ++ spread c
 spread-add c zero m f = rw (after-none c f, zero-add m)
 spread-add c (suc n) m f = rw (suc-add n m, after-suc c n f) (ap (λ (l : List PageAnswer). page c f ∷ l) (spread-add c n m (afterOf c 1 f)))
 
-glue-expand : (c n f : ℕ) (es : List Extent) → expand (glue c n f es) ≡ spread c n f ++ expand es
-unfolding glue
-glue-expand c n f [] = refl
-glue-expand c n f (e ∷ es) = go (joins (extent c n f) (e .code) (e .first)) refl
+joined-expand : (c n f : ℕ) (es : List Extent) → expand (joined c n f es) ≡ spread c n f ++ expand es
+unfolding joined
+joined-expand c n f [] = refl
+joined-expand c n f (e ∷ es) = go (joins (extent c n f) (e .code) (e .first)) refl
   where
     go : (b : Bool)
         → joins (extent c n f) (e .code) (e .first) ≡ b
@@ -93,14 +93,14 @@ glue-expand c n f (e ∷ es) = go (joins (extent c n f) (e .code) (e .first)) re
 
 pub extents-expand : (ps : List PageAnswer) → expand (extentsOf ps) ≡ ps
 extents-expand [] = refl
-extents-expand (p ∷ ps) = glue-expand (p .code) 1 (p .file) (extentsOf ps) ∙ ap (λ (l : List PageAnswer). p ∷ l) (extents-expand ps)
+extents-expand (p ∷ ps) = joined-expand (p .code) 1 (p .file) (extentsOf ps) ∙ ap (λ (l : List PageAnswer). p ∷ l) (extents-expand ps)
 
 -- the extents of pages that follow each other, and of the pages after them
-extents-spread : (c n f : ℕ) (ps : List PageAnswer) → extentsOf (spread c (suc n) f ++ ps) ≡ glue c (suc n) f (extentsOf ps)
+extents-spread : (c n f : ℕ) (ps : List PageAnswer) → extentsOf (spread c (suc n) f ++ ps) ≡ joined c (suc n) f (extentsOf ps)
 extents-spread c zero f ps = refl
-extents-spread c (suc n) f ps = ap (glue c 1 f) (extents-spread c n (afterOf c 1 f) ps) ∙ glue-glue c 1 f (suc n) (extentsOf ps) ∙ ap (λ (k : ℕ). glue c k f (extentsOf ps)) (omega arith)
+extents-spread c (suc n) f ps = ap (joined c 1 f) (extents-spread c n (afterOf c 1 f) ps) ∙ joined-joined c 1 f (suc n) (extentsOf ps) ∙ ap (λ (k : ℕ). joined c k f (extentsOf ps)) (omega arith)
 
-pub extents-stretch : (c n f : ℕ) (ps : List PageAnswer) → 1 ≤ n → extentsOf (spread c n f ++ ps) ≡ glue c n f (extentsOf ps)
+pub extents-stretch : (c n f : ℕ) (ps : List PageAnswer) → 1 ≤ n → extentsOf (spread c n f ++ ps) ≡ joined c n f (extentsOf ps)
 extents-stretch c zero f ps h = absurd (omega arith)
 extents-stretch c (suc n) f ps h = extents-spread c n f ps
 
@@ -126,10 +126,10 @@ page-at (e ∷ es) k d h = go (test k (e .pages)) (λ l. page-at es (k - e .page
         ∙ sym (getD-append-add (spread (e .code) (e .pages) (e .first)) (expand es) (k - e .pages) d)
         ∙ ap (λ (m : ℕ). getD (expand (e ∷ es)) m d) (ap (λ (m : ℕ). m + (k - e .pages)) (length-spread (e .code) (e .pages) (e .first)) ∙ omega arith))
 
-glue-sum : (c n f : ℕ) (es : List Extent) → pagesIn (glue c n f es) ≡ n + pagesIn es
-unfolding glue
-glue-sum c n f [] = refl
-glue-sum c n f (e ∷ es) = go (joins (extent c n f) (e .code) (e .first))
+joined-sum : (c n f : ℕ) (es : List Extent) → pagesIn (joined c n f es) ≡ n + pagesIn es
+unfolding joined
+joined-sum c n f [] = refl
+joined-sum c n f (e ∷ es) = go (joins (extent c n f) (e .code) (e .first))
   where
     go : (b : Bool) → pagesIn (if b then extent c (n + e .pages) f ∷ es else extent c n f ∷ e ∷ es) ≡ n + pagesIn (e ∷ es)
     go true = omega arith
@@ -138,7 +138,7 @@ glue-sum c n f (e ∷ es) = go (joins (extent c n f) (e .code) (e .first))
 -- the lengths sum to the count of the pages
 pub pages-sum : (ps : List PageAnswer) → pagesIn (extentsOf ps) ≡ length ps
 pages-sum [] = refl
-pages-sum (p ∷ ps) = glue-sum (p .code) 1 (p .file) (extentsOf ps) ∙ omega (arith, pages-sum ps)
+pages-sum (p ∷ ps) = joined-sum (p .code) 1 (p .file) (extentsOf ps) ∙ omega (arith, pages-sum ps)
 
 -- page k of the extents is page k
 pub pages-back : (ps : List PageAnswer) (k : ℕ) → k < length ps → pageAt (extentsOf ps) k ≡ pageOf ps k

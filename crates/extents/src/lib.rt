@@ -82,7 +82,7 @@ pub fn has_file_page(code: u64) -> bool
     code == 2
 }
 
-// The file page behind an extent.
+// The file page so many pages after an extent's first.
 pub fn page_after(code: u64, pages: u64, first: u64) -> u64
     requires { ⌜ (pages < 2 ^ 40) × (first < 2 ^ 40) ⌝ }
     ensures { λ r. ⌜ r ≡ afterOf code pages first ⌝ }

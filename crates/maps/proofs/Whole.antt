@@ -1,5 +1,5 @@
 -- Demand 3, and the map call above the two passes.
-use mathlib.Core.Path.{_≡_, refl, sym, ap, _∙_}
+use mathlib.Core.Path.{_≡_, refl, sym, ap, subst, _∙_}
 use mathlib.Core.Bool.{Bool, true, false, not, _&&_, _||_}
 use mathlib.Core.List.{List, [], _∷_, _++_}
 use Prim.Native.Nat.{ℕ, zero, suc, _+_, _-_, _*_, _/_, _%_, _^_, _≤_, _<_}
@@ -23,10 +23,12 @@ use Rattle.walk.specs.Walk.{World, worldOf, resolveOf, reachable, canonical, nu
 use Rattle.walk.specs.Rows.{worldIn}
 use Rattle.walk.specs.declared.Place.{Place}
 use Rattle.walk.specs.declared.Place.the-variants.{Image, Pagefile, Zeros, Refused}
-use Rattle.walk.proofs.Ground.{Sound, At, resolve-at}
+use Rattle.walk.proofs.Ground.{Sound, At, resolve-at, grounded}
 use Rattle.walk.proofs.SamePage.{moved, same-page}
 use Rattle.walk.proofs.CaseWorld.{Opened}
 use Rattle.address.specs.Case.{checkOf}
+use Rattle.address.specs.Address.{GroundedIn}
+use Rattle.extents.specs.Reading.{mapFields}
 use Rattle.extents.specs.Extents.{PageAnswer, carries, extentsOf, pageAt}
 use Rattle.extents.specs.Answers.{page, pageOf, Normal, SameAnswer, AnswersAs, Clean, AllClean}
 use Rattle.extents.specs.Layout.{mapBytes}
@@ -37,7 +39,7 @@ use Rattle.extents.proofs.ReadBack.{reads-back}
 use Rattle.lookup.specs.Lookup.{answerAt, lookupIn, lookupOf}
 use Rattle.lookup.specs.declared.Looked.{Looked}
 use Rattle.maps.specs.MapOf.{pageAnswer, pagesOf, mapOf, allowed, mapInWorld, mapCall}
-use Rattle.maps.specs.Demand3.{walkAnswer, AnswersAsWalk, Demand3, Demand3In, MapAnswer}
+use Rattle.maps.specs.Demand3.{walkAnswer, AnswersAsWalk, Fewest, Demand3, Demand3In, MapAnswer}
 use Rattle.base.specs.declared.Written.{Written}
 use Rattle.base.specs.Written.{WriteOutcome, notWritten, unwritten, written}
 use Rattle.maps.proofs.Codes.{resolve-mapped, clean-answer}
@@ -153,6 +155,10 @@ module _ (w : World) (sound : Sound w) (small : length (w .image) ≤ 2 ^ 48) (s
           rw (nth-page count w start k hk)
           (same-answer (pageAt es k) (resolveOf 3 w a .place) a (omega (arith, q .aligned)) (rw there at (s .answers a (omega arith) (omega arith))))
 
+  map-fewest : Fewest w start count (mapFields (mapOf w start count) 0)
+  unfolding mapOf
+  map-fewest = rw (reads-back pages (bits start 12 47) count clean (sym (pages-long count w start)) (start-in-half q)) fewest-extents
+
   -- ---- demand 3
 
   pub demand3 : (old : List ℕ) → Demand3 w start count old (mapInWorld w start count old)
@@ -160,21 +166,30 @@ module _ (w : World) (sound : Sound w) (small : length (w .image) ≤ 2 ^ 48) (s
     short = λ h. rw (lt-ltb (length old) (length (mapOf w start count)) h);
     written = λ h. rw (le-ltb (length old) (length (mapOf w start count)) h);
     answers = λ e a l u. go (test (length old) (length (mapOf w start count))) e a l u;
-    fewest = fewest-extents;
+    fewest = λ e. least (test (length old) (length (mapOf w start count))) e;
   }
     where
-      go : Test (length old) (length (mapOf w start count)) → mapInWorld w start count old .answer .number ≡ 0 → (a : ℕ) → start ≤ a → a < start + 4096 * count
-          → lookupOf (take (mapInWorld w start count old .answer .length) (mapInWorld w start count old .buffer)) a ≡ walkAnswer w a
-      go (below h) e a l u =
+      refused : {A : Type 0} → length old < length (mapOf w start count) → mapInWorld w start count old .answer .number ≡ 0 → A
+      refused h e =
           let z : refusalNumber MapBufferShort ≡ 0 = rw (lt-ltb (length old) (length (mapOf w start count)) h) at e in
           absurd (omega (arith, z))
-      go (above h) e a l u =
-          rw (
-            le-ltb (length old) (length (mapOf w start count)) h,
-            sets-eq (mapOf w start count) old 0 (omega arith),
-            take-at (mapOf w start count) (drop (0 + length (mapOf w start count)) old) (length (mapOf w start count)) refl,
-          )
-          (map-answers a l u)
+
+      -- the front of the buffer is the map
+      front : length (mapOf w start count) ≤ length old → take (mapInWorld w start count old .answer .length) (mapInWorld w start count old .buffer) ≡ mapOf w start count
+      front h = rw (
+        le-ltb (length old) (length (mapOf w start count)) h,
+        sets-eq (mapOf w start count) old 0 (omega arith),
+        take-at (mapOf w start count) (drop (0 + length (mapOf w start count)) old) (length (mapOf w start count)) refl,
+      )
+
+      least : Test (length old) (length (mapOf w start count)) → mapInWorld w start count old .answer .number ≡ 0 → Fewest w start count (mapFields (take (mapInWorld w start count old .answer .length) (mapInWorld w start count old .buffer)) 0)
+      least (below h) e = refused h e
+      least (above h) e = subst (λ (bs : List ℕ). Fewest w start count (mapFields bs 0)) (sym (front h)) map-fewest
+
+      go : Test (length old) (length (mapOf w start count)) → mapInWorld w start count old .answer .number ≡ 0 → (a : ℕ) → start ≤ a → a < start + 4096 * count
+          → lookupOf (take (mapInWorld w start count old .answer .length) (mapInWorld w start count old .buffer)) a ≡ walkAnswer w a
+      go (below h) e a l u = refused h e
+      go (above h) e a l u = subst (λ (bs : List ℕ). lookupOf bs a ≡ walkAnswer w a) (sym (front h)) (map-answers a l u)
 
 -- ---- the map call
 
@@ -188,16 +203,19 @@ small-image sh image pagefile v o =
 module _ (sh image pagefile : List ℕ) (start count : ℕ) (old : List ℕ) where
   pub refused-sheet-map : (x : Refusal) → checkOf sh image pagefile ≡ sheet.refused x → (r : Written) → r ≡ notWritten x → MapAnswer sh image pagefile start count old r old
   unfolding mapCall
-  refused-sheet-map x e r g = record { same = rw (e, g); demand3 = rw e tt }
+  refused-sheet-map x e r g = record { same = rw (e, g); demand3 = rw e tt; grounded = λ a. rw e tt }
 
   module _ (v : Checked) (o : Opened sh image pagefile v) where
+    all-grounded : (a : ℕ) → GroundedIn image pagefile a (checkOf sh image pagefile)
+    all-grounded a = rw (o .check) (grounded (worldOf (o .case) image pagefile) (o .sound) a)
+
     pub refused-range : allowed start count ≡ false → (r : Written) → r ≡ notWritten BadMapRange → MapAnswer sh image pagefile start count old r old
     unfolding mapCall
-    refused-range h r g = record { same = rw (o .check, h, g); demand3 = rw (o .check) (λ e. absurd (let z : true ≡ false = sym e ∙ h in let y : _≡_ {A = ℕ} 0 1 = cc in omega arith)) }
+    refused-range h r g = record { same = rw (o .check, h, g); demand3 = rw (o .check) (λ e. absurd (let z : true ≡ false = sym e ∙ h in let y : _≡_ {A = ℕ} 0 1 = cc in omega arith)); grounded = all-grounded }
 
     pub mapped : allowed start count ≡ true → (k : ℕ) → RowNumbers (v .runs .count) k → (r : Written) (new : List ℕ)
         → record { answer = r; buffer = new } ≡ mapInWorld (worldIn (take k (v .runs .rows)) (v .directory) image pagefile) start count old → MapAnswer sh image pagefile start count old r new
     unfolding mapCall
     mapped h k m r new e =
         let e′ : record { answer = r; buffer = new } ≡ mapInWorld (worldOf (o .case) image pagefile) start count old = rw (o .world k m) at e in
-        record { same = rw (o .check, h) e′; demand3 = rw (o .check) (λ x. rw e′ (demand3 (worldOf (o .case) image pagefile) (o .sound) (small-image sh image pagefile v o) start count h old)) }
+        record { same = rw (o .check, h) e′; demand3 = rw (o .check) (λ x. rw e′ (demand3 (worldOf (o .case) image pagefile) (o .sound) (small-image sh image pagefile v o) start count h old)); grounded = all-grounded }

@@ -9,7 +9,7 @@ use Rattle.base.specs.Written.{WriteOutcome}
 use Rattle.base.specs.declared.Written.{Written}
 use Rattle.base.specs.declared.Refusal.the-variants.{MapBufferShort}
 use Rattle.walk.specs.Walk.{World, resolveOf, numberOf, offsetOf}
-use Rattle.extents.specs.Extents.{extentsOf, pageAt, pagesIn}
+use Rattle.extents.specs.Extents.{pageAt, pagesIn}
 use Rattle.extents.specs.Answers.{Lengths}
 use Rattle.extents.specs.declared.Extent.{Extent}
 use Rattle.lookup.specs.Lookup.{answerAt, lookupOf}
@@ -17,7 +17,10 @@ use Rattle.lookup.specs.declared.Looked.{Looked}
 use Rattle.sheet.specs.Sheet.{Check, accepted, refused}
 use Rattle.walk.specs.Walk.{worldOf}
 use Rattle.address.specs.Case.{checkOf}
-use Rattle.maps.specs.MapOf.{mapOf, pagesOf, allowed, mapCall}
+use Rattle.address.specs.Address.{GroundedIn}
+use Rattle.varint.specs.Reader.{Read, got, bad}
+use Rattle.extents.specs.Reading.{Map, mapFields}
+use Rattle.maps.specs.MapOf.{mapOf, allowed, mapCall}
 
 -- the page walk's answer: number and offset, as the address call hands them back
 abbrev pub walkAnswer : World → ℕ → Looked
@@ -29,21 +32,27 @@ pub record AnswersAsWalk (w : World) (start count : ℕ) (es : List Extent) : Ty
   pub sum : pagesIn es ≡ count
   pub answers : (a : ℕ) → start ≤ a → a < start + 4096 * count → answerAt a (pageAt es ((a - start) / 4096)) ≡ walkAnswer w a
 
+-- no list of extents that answers so is shorter than the map that was read
+abbrev pub Fewest : World → ℕ → ℕ → Read Map → Type 0
+Fewest w start count (got m at) = (es : List Extent) → AnswersAsWalk w start count es → length (m .extents) ≤ length es
+Fewest w start count (bad r) = ⊥
+
 pub record Demand3 (w : World) (start count : ℕ) (old : List ℕ) (out : WriteOutcome) : Type 0 where
   -- refused for room exactly if its bytes are more than the buffer holds, and for nothing else
   pub short : length old < length (mapOf w start count) → out .answer .number ≡ refusalNumber MapBufferShort
   pub written : length (mapOf w start count) ≤ length old → out .answer .number ≡ 0
   -- the written bytes answer every address of the range, whichever byte of whichever page, as the walk does
   pub answers : out .answer .number ≡ 0 → (a : ℕ) → start ≤ a → a < start + 4096 * count → lookupOf (take (out .answer .length) (out .buffer)) a ≡ walkAnswer w a
-  -- no list of extents that answers so is shorter
-  pub fewest : (es : List Extent) → AnswersAsWalk w start count es → length (extentsOf (pagesOf count w start)) ≤ length es
+  -- they are a map, and no list of extents that answers so is shorter than it
+  pub fewest : out .answer .number ≡ 0 → Fewest w start count (mapFields (take (out .answer .length) (out .buffer)) 0)
 
 -- for every accepted case and allowed range
 abbrev pub Demand3In : List ℕ → List ℕ → ℕ → ℕ → List ℕ → WriteOutcome → Check → Type 0
 Demand3In image pagefile start count old out (refused r) = Unit {0}
 Demand3In image pagefile start count old out (accepted s) = allowed start count ≡ true → Demand3 (worldOf s image pagefile) start count old out
 
--- the map call's promise: what it hands back, and demand 3
+-- the map call's promise: what it hands back, demand 3, and that the walk rests on what the files hold
 pub record MapAnswer (sheet image pagefile : List ℕ) (start count : ℕ) (old : List ℕ) (r : Written) (new : List ℕ) : Type 0 where
   pub same : record { answer = r; buffer = new } ≡ mapCall sheet image pagefile start count old
   pub demand3 : Demand3In image pagefile start count old (record { answer = r; buffer = new }) (checkOf sheet image pagefile)
+  pub grounded : (a : ℕ) → GroundedIn image pagefile a (checkOf sheet image pagefile)

@@ -16,7 +16,7 @@ use Rattle.sheet.specs.Answer.{RowNumbers}
 use Rattle.sheet.specs.declared.Checked.{Checked}
 use Rattle.walk.specs.Walk.{World, worldOf, resolveOf}
 use Rattle.walk.specs.Rows.{worldIn, WordInside}
-use Rattle.walk.proofs.Ground.{Sound, word-inside, resolve-at}
+use Rattle.walk.proofs.Ground.{Sound, word-inside, resolve-at, grounded}
 use Rattle.walk.proofs.CaseWorld.{Opened}
 use Rattle.address.specs.Case.{checkOf}
 use Rattle.process_list.specs.declared.Followed.{Followed}
@@ -63,7 +63,7 @@ module _ (ns : Nodes) (old last : List ℕ) (r : Followed) (p : Pass ns [] r las
 module _ (sh image pagefile : List ℕ) (h : ℕ) (old : List ℕ) where
   pub refused-sheet-list : (x : Refusal) → checkOf sh image pagefile ≡ sheet.refused x → (r : Written) → r ≡ notWritten x → ListAnswer sh image pagefile h old r old
   unfolding listOf
-  refused-sheet-list x e r g = record { same = rw (e, g); exact = rw e tt; found = rw e tt }
+  refused-sheet-list x e r g = record { same = rw (e, g); exact = rw e tt; found = rw e tt; grounded = λ a. rw e tt }
 
   module _ (v : Checked) (o : Opened sh image pagefile v) where
     abbrev world : World
@@ -74,7 +74,7 @@ module _ (sh image pagefile : List ℕ) (h : ℕ) (old : List ℕ) where
 
     answered : (r : Written) (new : List ℕ) → record { answer = r; buffer = new } ≡ listed old (nodesOf world (length old) h) → ListAnswer sh image pagefile h old r new
     unfolding listOf
-    answered r new e = record { same = rw (o .check) e; exact = rw (o .check, e) (exact-list world h old); found = words-found }
+    answered r new e = record { same = rw (o .check) e; exact = rw (o .check, e) (exact-list world h old); found = words-found; grounded = λ a. rw (o .check) (grounded world (o .sound) a) }
 
     pub unaligned-head : (h % 8 ≡ 0 → ⊥) → (r : Written) → r ≡ notWritten LinkUnaligned → ListAnswer sh image pagefile h old r old
     unfolding nodesOf

@@ -1,4 +1,4 @@
--- The measuring pass over an empty buffer, then the writing pass; and the read call above them.
+-- The first pass over an empty buffer, then the writing pass; and the read call above them.
 use mathlib.Core.Path.{_≡_, refl, sym, ap, _∙_}
 use mathlib.Core.List.{List, [], _∷_, _++_}
 use mathlib.Core.Bool.{Bool, true, false}

@@ -55,8 +55,8 @@ pub fn read_bytes(
     }
 }
 
-// The same of a case whose sheet was read: a measuring pass, then a writing one.
-pub fn read_in(
+// The same of a case whose sheet was read: a pass that writes nothing, then a writing one.
+fn read_in(
     rows: &[u64],
     image: &[u8],
     pagefile: &[u8],

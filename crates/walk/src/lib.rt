@@ -11,7 +11,7 @@ ghost use Prim.Native.Nat.{_-_, _/_, _%_, _^_, _≤_, _<_};
 ghost use lib.ListN.{length};
 ghost use Rattle.entry.specs.Entry.{levelOf};
 ghost use Rattle.walk.specs.Walk.{frameIn, inPage, pagefilePlace, wordOf, reachable, resolveOf};
-ghost use Rattle.walk.specs.Rows.{pageInRows, guarded, worldIn, entryRead, Descends, noTable, Settles, WordInside, refusedPlace, prototypeStep, resolvedOf};
+ghost use Rattle.walk.specs.Rows.{pageInRows, guarded, worldIn, entryRead, Descends, noTable, endedAfter, Settles, WordInside, refusedPlace, prototypeStep, resolvedOf};
 
 // The image page of a frame.
 pub enum Found {
@@ -101,7 +101,7 @@ fn index(below: u64, address: u64) -> u64
     address / 549755813888 % 512
 }
 
-// The frame of an address in a page that starts at a frame.
+// The frame of an address in the page of this size that holds a frame.
 fn frame_in(f: Frame, size: PageSize, address: u64) -> Frame
     ensures { λ r. ⌜ r ≡ frameIn f size address ⌝ }
 {
@@ -144,16 +144,10 @@ fn descend(rows: &[u64], image: &[u8], directory: Frame, address: u64) -> Descen
                 entries += 1;
                 match entry::upper_entry(entry::level_at(below), e) {
                     Upper::UpperNeedsRegion => {
-                        return Descent {
-                            leaf: Leaf::NeedsRegion,
-                            entries,
-                        };
+                        return ended(Leaf::NeedsRegion, entries);
                     }
                     Upper::Ends(rest) => {
-                        return Descent {
-                            leaf: Leaf::Settled(rest),
-                            entries,
-                        };
+                        return ended(Leaf::Settled(rest), entries);
                     }
                     Upper::Table(f) => {
                         table = f;
@@ -165,23 +159,21 @@ fn descend(rows: &[u64], image: &[u8], directory: Frame, address: u64) -> Descen
     }
     match table_entry(rows, image, table, 0, address) {
         EntryRead::NoTable => no_table(entries),
-        EntryRead::Entry(e) => {
-            let leaf = entry::last_entry(e);
-            Descent {
-                leaf,
-                entries: entries + 1,
-            }
-        }
+        EntryRead::Entry(e) => ended(entry::last_entry(e), entries + 1),
     }
 }
 
+// A table's frame is in no run.
 fn no_table(entries: u64) -> Descent
     ensures { λ r. ⌜ r ≡ noTable entries ⌝ }
 {
-    Descent {
-        leaf: Leaf::Settled(Rest::Refuses(Refusal::FrameInNoRun)),
-        entries,
-    }
+    ended(Leaf::Settled(Rest::Refuses(Refusal::FrameInNoRun)), entries)
+}
+
+fn ended(leaf: Leaf, entries: u64) -> Descent
+    ensures { λ r. ⌜ r ≡ endedAfter entries leaf ⌝ }
+{
+    Descent { leaf, entries }
 }
 
 // The place of an address in a frame.
