@@ -1,7 +1,7 @@
 // What one page table entry says, apart from where it lies; and the three page counts that must not be taken for each other.
 use base::Refusal;
 ghost use mathlib.Core.Path.{_≡_};
-ghost use Rattle.entry.specs.Pages.{frame, pagefilePage, virtualPage};
+ghost use Rattle.entry.specs.Pages.{frame, pagefilePage, virtualPage, virtualPageOf};
 ghost use Prim.Native.Nat.{_<_, _^_};
 ghost use Rattle.entry.specs.Entry.{row, levelOf, upperOf, validOf, transition, softwareOf, extended, leafOf, prototypeOf};
 
@@ -213,6 +213,12 @@ impl VirtualPage {
         ensures { λ r. ⌜ r ≡ virtualPage n ⌝ }
     {
         VirtualPage(n)
+    }
+
+    pub fn of_address(address: u64) -> VirtualPage
+        ensures { λ r. ⌜ r ≡ virtualPageOf address ⌝ }
+    {
+        VirtualPage(address / 4096 % 68719476736)
     }
 
     pub fn number(self) -> u64
