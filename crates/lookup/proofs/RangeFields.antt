@@ -9,6 +9,7 @@ use borrow.Author.Tests.{eq-eqb, ne-eqb, leb-true}
 use Rattle.base.specs.Notation.{if_then_else_}
 use Rattle.base.specs.declared.Refusal.{Refusal}
 use Rattle.base.specs.declared.Refusal.the-variants.{OutOfLimits}
+use Rattle.entry.specs.Pages.{virtualPage}
 use Rattle.varint.specs.Reader.{Read, got, bad, after, return}
 use Rattle.varint.specs.Groups.{number}
 use Rattle.varint.proofs.Reader.{came, held, returned}
@@ -44,7 +45,7 @@ module _ (s : List ℕ) (edition a : ℕ) (e₁ : number s 0 ≡ got edition a) 
 
       pub all-fields : (count next : ℕ) → number s b ≡ got count next → limitsAnswer start count next ≡ rangeOf (rangeFields s 0)
       unfolding rangeFields
-      all-fields count next e = rw (e₁, eq-eqb edition 1 h, e₂, e) (fields s (record { start = start; count = count }) next (inHalf start count))
+      all-fields count next e = rw (e₁, eq-eqb edition 1 h, e₂, e) (fields s (record { start = virtualPage start; count = count }) next (inHalf start count))
 
 pub both : (a b : Bool) → (a && b) ≡ true → (a ≡ true) × (b ≡ true)
 both true true e = (refl, refl)
@@ -59,7 +60,7 @@ some-pages s r next e =
     let c₂ = came s _ (number s (c₁ .at)) r next (t₁ .1) in
     let c₃ = came s _ (number s (c₂ .at)) r next (c₂ .rest) in
     let t₂ = held s _ (inHalf (c₂ .value) (c₃ .value)) OutOfLimits (c₃ .at) r next (c₃ .rest) in
-    let same = returned (record { start = c₂ .value; count = c₃ .value }) r (c₃ .at) next (t₂ .1) .0 in
+    let same = returned (record { start = virtualPage (c₂ .value); count = c₃ .value }) r (c₃ .at) next (t₂ .1) .0 in
     let limits = both (leb 1 (c₃ .value) && leb (c₃ .value) (2 ^ 20)) _ (t₂ .0) in
     let some : 1 ≤ c₃ .value = leb-true 1 (c₃ .value) (both (leb 1 (c₃ .value)) (leb (c₃ .value) (2 ^ 20)) (limits .0) .0) in
     let same-count : c₃ .value ≡ r .count = ap (λ (z : MapRange). z .count) same in

@@ -11,6 +11,8 @@ use Rattle.base.specs.Notation.{if_then_else_, bits}
 use Rattle.base.specs.declared.Refusal.{Refusal}
 use Rattle.base.specs.declared.Refusal.the-variants.{OutOfLimits, TrailingBytes, NotCanonical, OutsideMap}
 use Rattle.base.proofs.Test.{Test, test, below, above}
+use Rattle.entry.specs.Pages.{virtualPageOf}
+use Rattle.entry.specs.declared.VirtualPage.{VirtualPage}
 use Rattle.varint.specs.Reader.{Read, got, bad, Reader, after, return}
 use Rattle.varint.specs.Groups.{number}
 use Rattle.walk.specs.Walk.{canonical}
@@ -37,7 +39,7 @@ in-parts s j k w (bad r) f = refl
 
 -- the map of a range, when its extents were read and the end is judged
 abbrev mapOf : MapRange → List ℕ → Read (List Extent) → Read Map
-mapOf r s d = after s (λ (es : List Extent). λ (t : List ℕ) (i : ℕ). after t (λ (u : Unit {0}). return (record { start = r .start; count = r .count; extents = es })) (if eqb i (length t) then got tt i else bad TrailingBytes)) d
+mapOf r s d = after s (λ (es : List Extent). λ (t : List ℕ) (i : ℕ). after t (λ (u : Unit {0}). return (record { start = r .start .0; count = r .count; extents = es })) (if eqb i (length t) then got tt i else bad TrailingBytes)) d
 
 abbrev extentsOf : MapRange → Reader Map
 extentsOf r s at = mapOf r s (extentsFrom (r .count) (r .count) (extent 0 0 0) s at)
@@ -54,8 +56,8 @@ range-first s =
 -- ---- the answer
 
 page-asked : (a : ℕ) (r : MapRange) (es : List Extent) (b : Bool)
-    → (if b then answerAt a (asAnswer (asPage (pageAt es (if b then bits a 12 47 - r .start else 0)))) else refusedLookup OutsideMap)
-    ≡ (if b then answerAt a (pageAt es (bits a 12 47 - r .start)) else refusedLookup OutsideMap)
+    → (if b then answerAt a (asAnswer (asPage (pageAt es (if b then bits a 12 47 - r .start .0 else 0)))) else refusedLookup OutsideMap)
+    ≡ (if b then answerAt a (pageAt es (bits a 12 47 - r .start .0)) else refusedLookup OutsideMap)
 page-asked a r es true = refl
 page-asked a r es false = refl
 
@@ -68,33 +70,33 @@ module _ (s : List ℕ) (a : ℕ) (r : MapRange) where
     where
       go : (b : Bool)
           → (if b then Answered (asPage (pageAt es k)) else Stopped TrailingBytes) ≡ Stopped q
-          → refusedLookup q ≡ lookupIn a (after s (λ (u : Unit {0}). return (record { start = r .start; count = r .count; extents = es })) (if b then got tt i else bad TrailingBytes))
+          → refusedLookup q ≡ lookupIn a (after s (λ (u : Unit {0}). return (record { start = r .start .0; count = r .count; extents = es })) (if b then got tt i else bad TrailingBytes))
       go true w = absurd (let z : _≡_ {A = ℕ} 0 1 = cc in omega arith)
       go false w =
           let same : TrailingBytes ≡ q = cc in
           ap refusedLookup (sym same)
 
-  answered-in : (d : Read (List Extent)) (p : Page) → pageIn s (askedOf r (bits a 12 47)) d ≡ Answered p → lookedOf r a p ≡ lookupIn a (mapOf r s d)
+  answered-in : (d : Read (List Extent)) (p : Page) → pageIn s (askedOf r (virtualPageOf a)) d ≡ Answered p → lookedOf r a p ≡ lookupIn a (mapOf r s d)
   unfolding lookedOf askedOf
   answered-in (bad q) p e = absurd (let z : _≡_ {A = ℕ} 0 1 = cc in omega arith)
   answered-in (got es i) p e = go (eqb i (length s)) e
     where
       go : (b : Bool)
-          → (if b then Answered (asPage (pageAt es (askedOf r (bits a 12 47)))) else Stopped TrailingBytes) ≡ Answered p
-          → lookedOf r a p ≡ lookupIn a (after s (λ (u : Unit {0}). return (record { start = r .start; count = r .count; extents = es })) (if b then got tt i else bad TrailingBytes))
+          → (if b then Answered (asPage (pageAt es (askedOf r (virtualPageOf a)))) else Stopped TrailingBytes) ≡ Answered p
+          → lookedOf r a p ≡ lookupIn a (after s (λ (u : Unit {0}). return (record { start = r .start .0; count = r .count; extents = es })) (if b then got tt i else bad TrailingBytes))
       go true w =
-          let same : asPage (pageAt es (askedOf r (bits a 12 47))) ≡ p = cc in
-          rw (← same) (ap (λ (z : Looked). if not (canonical a) then refusedLookup NotCanonical else z) (page-asked a r es (inRange r (bits a 12 47))))
+          let same : asPage (pageAt es (askedOf r (virtualPageOf a))) ≡ p = cc in
+          rw (← same) (ap (λ (z : Looked). if not (canonical a) then refusedLookup NotCanonical else z) (page-asked a r es (inRange r (virtualPageOf a))))
       go false w = absurd (let z : _≡_ {A = ℕ} 0 1 = cc in omega arith)
 
-pub asked-below : (r : MapRange) (page : ℕ) → 1 ≤ r .count → askedOf r page < r .count
+pub asked-below : (r : MapRange) (page : VirtualPage) → 1 ≤ r .count → askedOf r page < r .count
 unfolding askedOf
-asked-below r page h = go (test page (r .start)) (test page (r .start + r .count))
+asked-below r page h = go (test (page .0) (r .start .0)) (test (page .0) (r .start .0 + r .count))
   where
-    go : Test page (r .start) → Test page (r .start + r .count) → askedOf r page < r .count
-    go (below l) t = rw (lt-leb (r .start) page l) (omega arith)
-    go (above l) (below m) = rw (le-leb (r .start) page l, lt-ltb page (r .start + r .count) m) (omega arith)
-    go (above l) (above m) = rw (le-leb (r .start) page l, le-ltb page (r .start + r .count) m) (omega arith)
+    go : Test (page .0) (r .start .0) → Test (page .0) (r .start .0 + r .count) → askedOf r page < r .count
+    go (below l) t = rw (lt-leb (r .start .0) (page .0) l) (omega arith)
+    go (above l) (below m) = rw (le-leb (r .start .0) (page .0) l, lt-ltb (page .0) (r .start .0 + r .count) m) (omega arith)
+    go (above l) (above m) = rw (le-leb (r .start .0) (page .0) l, le-ltb (page .0) (r .start .0 + r .count) m) (omega arith)
 
 pub file-below : (v : PageRead) (p : Page) → v ≡ Answered p → FileBelow v → p .file < 2 ^ 36
 file-below v p e h =
@@ -111,9 +113,9 @@ module _ (s : List ℕ) (a : ℕ) where
     unfolding lookupOf
     map-read = rw (range-first s, e)
 
-    module _ (k : ℕ) (ek : k ≡ askedOf r (bits a 12 47)) where
+    module _ (k : ℕ) (ek : k ≡ askedOf r (virtualPageOf a)) where
       pub asked-count : k < r .count
-      asked-count = rw ek (asked-below r (bits a 12 47) (some-pages s r at e))
+      asked-count = rw ek (asked-below r (virtualPageOf a) (some-pages s r at e))
 
       module _ (v : PageRead) (ev : v ≡ pageIn s k (extentsFrom (r .count) (r .count) (extent 0 0 0) s at)) where
         pub no-extents : (q : Refusal) → v ≡ Stopped q → refusedLookup q ≡ lookupOf s a
@@ -121,5 +123,5 @@ module _ (s : List ℕ) (a : ℕ) where
 
         pub looked-up : (p : Page) → v ≡ Answered p → lookedOf r a p ≡ lookupOf s a
         looked-up p f =
-            let w : pageIn s (askedOf r (bits a 12 47)) (extentsFrom (r .count) (r .count) (extent 0 0 0) s at) ≡ Answered p = rw ek at (sym ev ∙ f) in
+            let w : pageIn s (askedOf r (virtualPageOf a)) (extentsFrom (r .count) (r .count) (extent 0 0 0) s at) ≡ Answered p = rw ek at (sym ev ∙ f) in
             answered-in s a r (extentsFrom (r .count) (r .count) (extent 0 0 0) s at) p w ∙ sym map-read

@@ -5,10 +5,12 @@ use mathlib.Core.Bool.{Bool, false, not, _&&_}
 use mathlib.Core.List.{List}
 use lib.Dec.{ltb, leb, eqb}
 use lib.ListN.{length}
-use Rattle.base.specs.Notation.{if_then_else_, bits}
+use Rattle.base.specs.Notation.{if_then_else_}
 use Rattle.base.specs.declared.Refusal.the-variants.{OutOfLimits, TrailingBytes, NotCanonical, OutsideMap, BadExtent}
 use Rattle.varint.specs.Reader.{Read, got, bad, Reader, after, _>>=_, _>>_, return, need}
 use Rattle.varint.specs.Groups.{number}
+use Rattle.entry.specs.Pages.{virtualPage, virtualPageOf}
+use Rattle.entry.specs.declared.VirtualPage.{VirtualPage}
 use Rattle.walk.specs.Walk.{canonical}
 use Rattle.extents.specs.Extents.{PageAnswer, carries, afterOf, pageAt}
 use Rattle.extents.specs.Reading.{inHalf, sound}
@@ -33,14 +35,14 @@ rangeFields = do
   start ← number
   count ← number
   need (inHalf start count) OutOfLimits
-  return (record { start = start; count = count })
+  return (record { start = virtualPage start; count = count })
 
 abbrev pub rangeOf : Read MapRange → RangeRead
 rangeOf (got r next) = Fields r next
 rangeOf (bad r) = Faulty r
 
 abbrev pub limitsAnswer : ℕ → ℕ → ℕ → RangeRead
-limitsAnswer start count next = if inHalf start count then Fields (record { start = start; count = count }) next else Faulty OutOfLimits
+limitsAnswer start count next = if inHalf start count then Fields (record { start = virtualPage start; count = count }) next else Faulty OutOfLimits
 
 -- ---- one extent
 
@@ -85,16 +87,16 @@ FileBelow (Stopped r) = Unit {0}
 -- ---- the address
 
 -- is a page in the range?
-abbrev pub inRange : MapRange → ℕ → Bool
-inRange r page = leb (r .start) page && ltb page (r .start + r .count)
+abbrev pub inRange : MapRange → VirtualPage → Bool
+inRange r page = leb (r .start .0) (page .0) && ltb (page .0) (r .start .0 + r .count)
 
 -- the page of the range that is asked for, 0 when it is in no range
-unfoldable pub askedOf : MapRange → ℕ → ℕ
-askedOf r page = if inRange r page then page - r .start else 0
+unfoldable pub askedOf : MapRange → VirtualPage → ℕ
+askedOf r page = if inRange r page then page .0 - r .start .0 else 0
 
 -- the answer for an address, `p` being that of the page that is asked for
 unfoldable pub lookedOf : MapRange → ℕ → Page → Looked
 lookedOf r a p =
     if not (canonical a) then refusedLookup NotCanonical else
-    if inRange r (bits a 12 47) then answerAt a (asAnswer p) else
+    if inRange r (virtualPageOf a) then answerAt a (asAnswer p) else
     refusedLookup OutsideMap

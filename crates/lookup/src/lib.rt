@@ -1,16 +1,17 @@
 // The lookup call: a map's bytes and an address, to the number and the offset that the map has for it.
 use base::Refusal;
+use entry::VirtualPage;
 use extents::Extent;
 use varint::Number;
 ghost use mathlib.Core.Path.{_≡_};
 ghost use Prim.Native.Nat.{_<_, _^_};
-ghost use Rattle.base.specs.Notation.{bits};
+ghost use Rattle.entry.specs.Pages.{virtualPageOf};
 ghost use Rattle.varint.specs.Answer.{numberOf};
 ghost use Rattle.walk.specs.Walk.{canonical};
 ghost use Rattle.extents.specs.Extents.{extent};
 ghost use Rattle.extents.specs.Reading.{listed, sound, extentFrom, extentsFrom};
 ghost use Rattle.lookup.specs.Lookup.{refusedLookup, answerAt, lookupOf};
-ghost use Rattle.lookup.specs.Answer.{rangeFields, rangeOf, limitsAnswer, Fits, firstFrom, extentOf, judgedOf, asAnswer, noteOf, pageIn, FileBelow, askedOf, lookedOf};
+ghost use Rattle.lookup.specs.Answer.{rangeFields, rangeOf, limitsAnswer, Fits, firstFrom, extentOf, judgedOf, asAnswer, noteOf, pageIn, FileBelow, inRange, askedOf, lookedOf};
 
 #[repr(C)]
 pub struct Looked {
@@ -19,7 +20,7 @@ pub struct Looked {
 }
 
 pub struct MapRange {
-    pub start: u64,
+    pub start: VirtualPage,
     pub count: u64,
 }
 
@@ -78,11 +79,7 @@ fn answer(range: MapRange, address: u64, page: Page) -> Looked
     if !is_canonical(address) {
         return refuse(Refusal::NotCanonical);
     }
-    let asked = address / 4096 % 68719476736;
-    if asked < range.start {
-        return refuse(Refusal::OutsideMap);
-    }
-    if range.count <= asked - range.start {
+    if !is_in_range(range, VirtualPage::of_address(address)) {
         return refuse(Refusal::OutsideMap);
     }
     place(address, page)
@@ -117,17 +114,24 @@ fn is_canonical(address: u64) -> bool
 
 // The page of the range that an address asks for, 0 for an address outside it.
 fn asked_page(range: MapRange, address: u64) -> u64
-    ensures { λ r. ⌜ r ≡ askedOf range (bits address 12 47) ⌝ }
+    ensures { λ r. ⌜ r ≡ askedOf range (virtualPageOf address) ⌝ }
 {
-    let asked = address / 4096 % 68719476736;
-    if asked < range.start {
+    let page = VirtualPage::of_address(address);
+    if !is_in_range(range, page) {
         return 0;
     }
-    let k = asked - range.start;
-    if range.count <= k {
-        return 0;
+    page.number() - range.start.number()
+}
+
+fn is_in_range(range: MapRange, page: VirtualPage) -> bool
+    ensures { λ r. ⌜ r ≡ inRange range page ⌝ }
+{
+    let asked = page.number();
+    let start = range.start.number();
+    if asked < start {
+        return false;
     }
-    k
+    asked - start < range.count
 }
 
 fn read_range(s: &[u8]) -> RangeRead
@@ -161,16 +165,20 @@ fn judge_range(start: u64, count: u64, next: usize) -> RangeRead
     if 1048576 < count {
         return RangeRead::Faulty(Refusal::OutOfLimits);
     }
+    let range = MapRange {
+        start: VirtualPage::numbered(start),
+        count,
+    };
     if start < 34359738368 {
         if 34359738368 < start + count {
             return RangeRead::Faulty(Refusal::OutOfLimits);
         }
-        return RangeRead::Fields(MapRange { start, count }, next);
+        return RangeRead::Fields(range, next);
     }
     if 68719476736 < start + count {
         return RangeRead::Faulty(Refusal::OutOfLimits);
     }
-    RangeRead::Fields(MapRange { start, count }, next)
+    RangeRead::Fields(range, next)
 }
 
 // The answer of page k of `count` pages, whose extents stand from `from` to the end.

@@ -13,6 +13,7 @@ use borrow.Author.Tests.{lt-ltb, le-ltb}
 use Rattle.base.specs.Notation.{bits}
 use Rattle.base.specs.declared.Refusal.the-variants.{MapBufferShort}
 use Rattle.base.proofs.Overlay.{sets-none}
+use Rattle.entry.specs.Pages.{virtualPageOf}
 use Rattle.varint.specs.Groups.{encode}
 use Rattle.varint.specs.Overlay.{Wrote}
 use Rattle.varint.proofs.Writing.{encode-length}
@@ -37,7 +38,7 @@ use Rattle.base.specs.Written.{WriteOutcome, notWritten, unwritten, written}
 use Rattle.maps.proofs.Codes.{Mapped, resolve-mapped, clean-answer}
 use Rattle.maps.proofs.Ranges.{Allowed, allowed-range, range-top, InRange, in-range}
 
-pub header-written : (start count : ℕ) {o o₁ o₂ o₃ : List ℕ} {a b r : ℕ} → Wrote o 0 (encode 1) a o₁ → Wrote o₁ a (encode (start / 4096 % 68719476736)) b o₂ → Wrote o₂ b (encode count) r o₃ → Wrote o 0 (headerBytes start count) r o₃
+pub header-written : (start count : ℕ) {o o₁ o₂ o₃ : List ℕ} {a b r : ℕ} → Wrote o 0 (encode 1) a o₁ → Wrote o₁ a (encode (virtualPageOf start .0)) b o₂ → Wrote o₂ b (encode count) r o₃ → Wrote o 0 (headerBytes start count) r o₃
 unfolding headerBytes
 header-written start count p q s = wrote-then p (wrote-then q s)
 

@@ -2,6 +2,7 @@
 use base::Refusal;
 use base::Written;
 use entry::Frame;
+use entry::VirtualPage;
 use extents::Builder;
 use sheet::Outcome;
 ghost use mathlib.Core.Path.{_≡_};
@@ -132,6 +133,7 @@ fn write_header(start: u64, pages: u64, out: &mut [u8]) -> usize
     ensures { λ r. ⌜ Wrote (now (out .entry)) 0 (headerBytes start pages) r (now (out .exit)) ⌝ }
 {
     let a = varint::write_number(out, 0, 1);
-    let b = varint::write_number(out, a, start / 4096 % 68719476736);
+    let first = VirtualPage::of_address(start);
+    let b = varint::write_number(out, a, first.number());
     varint::write_number(out, b, pages)
 }

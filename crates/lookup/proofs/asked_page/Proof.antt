@@ -1,16 +1,40 @@
+use mathlib.Core.Path.{sym, _∙_}
+use native.Mathlib.Omega.{arith}
 use borrow.Author.Needs.{needs}
-use Rattle.lookup.proofs.Address.{asked-below, asked-above, asked-inside}
+use borrow.Author.Tests.{not-true, not-false}
+use Rattle.lookup.proofs.Address.{asked-outside, asked-inside, start-first}
 use Rattle.lookup.proofs.asked_page.Statement.{statement}
 use Rattle.lookup.proofs.asked_page.Tie as tie
 
+of-address-requires : tie.Need-of-address-requires
+of-address-requires c κs = search needs
+
+is-in-range-requires : tie.Need-is-in-range-requires
+is-in-range-requires c κs = search needs
+
 returns : tie.Need-returns
-returns c = asked-below (c .before .before .args .range) _ (c .if1 .taken)
+returns c = rw (← c .before .before .of-address .ensures) (asked-outside _ _ (sym (c .before .is-in-range .ensures) ∙ not-true _ (c .if1 .taken)))
+
+number-requires : tie.Need-number-requires
+number-requires c κs = search needs
+
+number-requires-2 : tie.Need-number-requires-2
+number-requires-2 c κs = search needs
+
+sub-result : tie.Need-sub-result
+sub-result c = omega (arith, c .number2 .ensures, c .before .number .ensures, start-first (c .before .before .before .before .before .args .range) (c .before .before .before .before .of-address .result) (sym (c .before .before .before .is-in-range .ensures) ∙ not-false _ (c .before .before .if1 .left)))
 
 returns-2 : tie.Need-returns-2
-returns-2 c = asked-above (c .before .before .before .before .before .args .range) _ (c .before .before .before .if1 .left) (c .if2 .taken)
-
-returns-3 : tie.Need-returns-3
-returns-3 c = asked-inside (c .before .before .before .before .before .args .range) _ (c .before .before .before .if1 .left) (c .if2 .left)
+returns-2 c = rw (c .number2 .ensures, c .before .number .ensures, ← c .before .before .before .before .of-address .ensures) (asked-inside _ _ (sym (c .before .before .before .is-in-range .ensures) ∙ not-false _ (c .before .before .if1 .left)))
 
 pub asked-page-spec : {M : Type 1} → statement M
-asked-page-spec = tie.close (tie.spec returns returns-2 returns-3)
+asked-page-spec =
+    tie.close
+    (tie.spec
+    of-address-requires
+    is-in-range-requires
+    returns
+    number-requires
+    number-requires-2
+    sub-result
+    returns-2)
