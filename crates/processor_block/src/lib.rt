@@ -37,7 +37,7 @@ fn search(rows: &[u64], image: &[u8], pagefile: &[u8], from: u64) -> Answer
         let o = 8 * i;
         if words_fit(image, o) {
             let own = words::word_at(image, o + 0x18);
-            let directory = Frame::numbered(words::word_at(image, o + 0x1D0) / 4096 % 68719476736);
+            let directory = Frame::of_entry(words::word_at(image, o + 0x1D0));
             let found = walk::resolve_in(rows, image, pagefile, directory, own);
             let entries = found.entries;
             let place = found.place;

@@ -41,8 +41,8 @@ add-word-at-2 c = omega (arith, fit-inside _ _ (sym (c .before .before .words-fi
 word-at-requires-2 : tie.Need-word-at-requires-2 Inv-loop μ-loop
 word-at-requires-2 c κs = omega (arith, fit-inside _ _ (sym (c .before .before .words-fit .ensures) ∙ c .before .if1 .taken) (c .before .before .before .loop-test .taken) (c .before .before .before .before .before .before .before .before .before .before .pre))
 
-numbered-requires : tie.Need-numbered-requires Inv-loop μ-loop
-numbered-requires c κs = search needs
+of-entry-requires : tie.Need-of-entry-requires Inv-loop μ-loop
+of-entry-requires c κs = search needs
 
 resolve-in-requires : tie.Need-resolve-in-requires Inv-loop μ-loop
 resolve-in-requires c κs = search needs
@@ -51,7 +51,7 @@ is-at-requires : tie.Need-is-at-requires Inv-loop μ-loop
 is-at-requires c κs = search needs
 
 returns : tie.Need-returns Inv-loop μ-loop
-returns c = leads-back (c .before .before .before .before .before .before .before .before .before .loop .inv) _ (own-walk _ _ _ _ _ _ _ _ (c .before .before .before .before .before .word-at .ensures) (c .before .before .before .before .word-at2 .ensures) (c .before .before .before .numbered .ensures) (c .before .before .resolve-in .ensures)) (omega arith) (sym (c .before .before .before .before .before .before .before .words-fit .ensures) ∙ c .before .before .before .before .before .before .if1 .taken) (sym (c .before .is-at .ensures) ∙ c .if2 .taken)
+returns c = leads-back (c .before .before .before .before .before .before .before .before .before .loop .inv) _ (own-walk _ _ _ _ _ _ _ _ (c .before .before .before .before .before .word-at .ensures) (c .before .before .before .before .word-at2 .ensures) (c .before .before .before .of-entry .ensures) (c .before .before .resolve-in .ensures)) (omega arith) (sym (c .before .before .before .before .before .before .before .words-fit .ensures) ∙ c .before .before .before .before .before .before .if1 .taken) (sym (c .before .is-at .ensures) ∙ c .if2 .taken)
 
 add-next-pair : tie.Need-add-next-pair Inv-loop μ-loop
 add-next-pair c = search needs
@@ -86,7 +86,7 @@ search-spec =
     word-at-requires
     add-word-at-2
     word-at-requires-2
-    numbered-requires
+    of-entry-requires
     resolve-in-requires
     is-at-requires
     returns
