@@ -1,6 +1,8 @@
 """Runs the host program as a person does."""
+import functools
 import json
 import os
+import platform
 import re
 import shutil
 import subprocess
@@ -14,9 +16,14 @@ BUILT = ROOT / "target" / "host"
 
 ANSWERED, REFUSED, FAILED = 0, 1, 2
 
+NOBODY = 65534
+
 # Huge lengths must reach the program as memory that cannot be had, also under the sanitizers.
 ENVIRONMENT = dict(os.environ, ASAN_OPTIONS="allocator_may_return_null=1", LC_ALL="C")
 SANITIZER_NOTE = re.compile(rb"==\d+==WARNING: AddressSanitizer failed to allocate[^\n]*\n")
+
+
+SANITIZED = BUILT / "glintloom-sanitized"
 
 
 class Program:
@@ -25,16 +32,35 @@ class Program:
     path = BUILT / "glintloom"
 
 
-def command(*words):
-    return [str(Program.path), *map(str, words)]
+@functools.cache
+def without_random_addresses():
+    """The command that turns random addresses off, where there is one: gcc 12's ASan dies of some of them."""
+    prefix = ["setarch", platform.machine(), "-R"]
+    try:
+        works = subprocess.run([*prefix, "true"], capture_output=True).returncode == 0
+    except OSError:
+        works = False
+    return prefix if works else []
 
 
-def run(*words, **how):
+def command(*words, copy=None):
+    """The program, or a copy of it, with these words."""
+    prefix = without_random_addresses() if Program.path == SANITIZED else []
+    return [*prefix, str(copy or Program.path), *map(str, words)]
+
+
+def run_redirected(redirections, *words):
+    """Runs with standard descriptors redirected or closed by the shell."""
+    shell = ["sh", "-c", f'exec "$@" {redirections}', "sh"]
+    return subprocess.run(shell + command(*words), capture_output=True, env=ENVIRONMENT, timeout=60)
+
+
+def run(*words, copy=None, **how):
     """Runs with these words; standard output and error are kept as bytes."""
     if "input" not in how:
         how.setdefault("stdin", subprocess.DEVNULL)
     how.setdefault("stdout", subprocess.PIPE)
-    done = subprocess.run(command(*words), stderr=subprocess.PIPE, env=ENVIRONMENT, timeout=60, **how)
+    done = subprocess.run(command(*words, copy=copy), stderr=subprocess.PIPE, env=ENVIRONMENT, timeout=60, **how)
     done.stderr = SANITIZER_NOTE.sub(b"", done.stderr)
     return done
 
@@ -42,16 +68,19 @@ def run(*words, **how):
 class Conversation:
     """A run that is asked by standard input; ended after a while if it does not answer."""
 
-    def __init__(self, *words, stderr=subprocess.PIPE):
-        pipes = {"stdin": subprocess.PIPE, "stdout": subprocess.PIPE, "stderr": stderr}
+    def __init__(self, *words, stdout=subprocess.PIPE, stderr=subprocess.PIPE):
+        pipes = {"stdin": subprocess.PIPE, "stdout": stdout, "stderr": stderr}
         self.child = subprocess.Popen(command(*words), env=ENVIRONMENT, **pipes)
         self.patience = threading.Timer(60, self.child.kill)
         self.patience.start()
 
-    def ask(self, address):
-        """The line that answers an address."""
+    def send(self, address):
         self.child.stdin.write(address + b"\n")
         self.child.stdin.flush()
+
+    def ask(self, address):
+        """The line that answers an address."""
+        self.send(address)
         return self.child.stdout.readline()
 
     def end(self, address=b""):
@@ -67,7 +96,7 @@ class HostTest(unittest.TestCase):
     def setUp(self):
         directory = tempfile.TemporaryDirectory(prefix="glintloom-test-")
         self.addCleanup(directory.cleanup)
-        self.directory = Path(directory.name)
+        self.directory = Path(directory.name).resolve()
 
     def write(self, name, content):
         path = self.directory / name
@@ -78,14 +107,14 @@ class HostTest(unittest.TestCase):
         """How to run without root's rights: from a copy of the program in a directory that all may use."""
         if os.geteuid() != 0:
             return {}
-        shutil.copy(Program.path, self.directory / "glintloom")
+        copy, become_nobody = self.directory / "glintloom", lambda: os.setuid(NOBODY)
+        shutil.copy(Program.path, copy)
         self.directory.chmod(0o777)
-        how = {"executable": self.directory / "glintloom", "preexec_fn": lambda: os.setuid(65534)}
         try:
-            subprocess.run(["help"], capture_output=True, **how)
+            subprocess.run([copy, "help"], capture_output=True, preexec_fn=become_nobody)
         except (OSError, subprocess.SubprocessError):
-            self.skipTest("root cannot become nobody here")
-        return how
+            self.skipTest("nobody cannot run a copy of the program here")
+        return {"copy": copy, "preexec_fn": become_nobody}
 
     def says(self, words, status, out, **how):
         """The run ends so, prints exactly these lines, and nothing on standard error."""

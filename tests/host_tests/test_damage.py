@@ -33,7 +33,8 @@ class SharedLibrary(HostTest):
 
     def test_linked(self):
         """A program in C that is linked with it, with an empty case."""
-        source, linked = self.write("linked.c", LINKED), self.directory / "linked"
+        source, linked = self.write("linked.c", LINKED), ROOT / "target" / "tests" / "linked"
+        linked.parent.mkdir(exist_ok=True)
         with_library = ["-I", ROOT / "host", "-L", BUILT, "-lglintloom", f"-Wl,-rpath,{BUILT}"]
         subprocess.run(["gcc", "-std=c11", "-o", linked, source, *with_library], check=True)
         self.assertEqual(subprocess.run([linked]).returncode, 10)
