@@ -5,6 +5,8 @@
 #include <stdarg.h>
 #include <stdio.h>
 #include <stdlib.h>
+#include <string.h>
+#include <unistd.h>
 
 _Noreturn void fail(const char *format, ...)
 {
@@ -17,4 +19,10 @@ _Noreturn void fail(const char *format, ...)
     va_end(arguments);
     fputc('\n', stderr);
     exit(FAILED);
+}
+
+void write_to_standard_error(const char *text)
+{
+    ssize_t written = write(STDERR_FILENO, text, strlen(text));
+    (void)written;
 }

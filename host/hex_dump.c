@@ -1,6 +1,5 @@
 #include "hex_dump.h"
 
-#include <inttypes.h>
 #include <stdio.h>
 #include <string.h>
 

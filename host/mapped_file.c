@@ -21,12 +21,6 @@ static struct {
 } mapped[MOST_FILES];
 static int mapped_count;
 
-static void write_message(const char *text)
-{
-    ssize_t written = write(STDERR_FILENO, text, strlen(text));
-    (void)written;
-}
-
 /* SIGBUS: a page of a mapped file that the file no longer has, or that its disk does not give. */
 static void end_for_lost_page(int signal_number, siginfo_t *info, void *context)
 {
@@ -38,9 +32,9 @@ static void end_for_lost_page(int signal_number, siginfo_t *info, void *context)
             continue;
         end_progress();
         discard_unfinished_output();
-        write_message("glintloom: ");
-        write_message(mapped[i].name);
-        write_message(": was cut short, or its disk failed, while it was read\n");
+        write_to_standard_error("glintloom: ");
+        write_to_standard_error(mapped[i].name);
+        write_to_standard_error(": was cut short, or its disk failed, while it was read\n");
         _exit(FAILED);
     }
     signal(signal_number, SIG_DFL);
@@ -50,6 +44,25 @@ static void watch_for_lost_pages(void)
 {
     struct sigaction action = {.sa_sigaction = end_for_lost_page, .sa_flags = SA_SIGINFO};
     sigaction(SIGBUS, &action, NULL);
+}
+
+static void map_bytes(const char *name, int descriptor, struct mapped_file *file)
+{
+    void *bytes = mmap(NULL, file->length, PROT_READ, MAP_PRIVATE, descriptor, 0);
+    if (bytes == MAP_FAILED)
+        fail("%s: %s", name, strerror(errno));
+    file->bytes = bytes;
+}
+
+/* Some files of /proc say that they are empty and are not. */
+static void check_empty(const char *name, int descriptor)
+{
+    char byte;
+    ssize_t count = read(descriptor, &byte, 1);
+    if (count < 0)
+        fail("%s: %s", name, strerror(errno));
+    if (count > 0)
+        fail("%s: has no stated length", name);
 }
 
 struct mapped_file map_file(const char *name)
@@ -64,13 +77,11 @@ struct mapped_file map_file(const char *name)
         fail("%s: not a regular file", name);
     if ((uintmax_t)status.st_size > SIZE_MAX)
         fail("%s: too large to map", name);
-    if (status.st_size > 0) {
-        void *bytes = mmap(NULL, (size_t)status.st_size, PROT_READ, MAP_PRIVATE, descriptor, 0);
-        if (bytes == MAP_FAILED)
-            fail("%s: %s", name, strerror(errno));
-        file.bytes = bytes;
-        file.length = (size_t)status.st_size;
-    }
+    file.length = (size_t)status.st_size;
+    if (file.length > 0)
+        map_bytes(name, descriptor, &file);
+    else
+        check_empty(name, descriptor);
     mapped[mapped_count].name = name;
     mapped[mapped_count].file = file;
     mapped[mapped_count].descriptor = descriptor;
@@ -78,6 +89,11 @@ struct mapped_file map_file(const char *name)
     mapped_count++;
     watch_for_lost_pages();
     return file;
+}
+
+static bool same_time(struct timespec one, struct timespec other)
+{
+    return one.tv_sec == other.tv_sec && one.tv_nsec == other.tv_nsec;
 }
 
 void check_mapped_files(void)
@@ -89,7 +105,7 @@ void check_mapped_files(void)
             fail("%s: %s", mapped[i].name, strerror(errno));
         if (now.st_size < then->st_size)
             fail("%s: was cut short while it was read", mapped[i].name);
-        if (now.st_mtim.tv_sec != then->st_mtim.tv_sec || now.st_mtim.tv_nsec != then->st_mtim.tv_nsec)
+        if (now.st_size != then->st_size || !same_time(now.st_mtim, then->st_mtim) || !same_time(now.st_ctim, then->st_ctim))
             fail("%s: was changed while it was read", mapped[i].name);
     }
 }

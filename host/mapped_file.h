@@ -13,11 +13,12 @@ struct mapped_file {
     size_t length;
 };
 
-/* Maps a regular file for the rest of the run. Touching a page that the file has lost since ends the program with FAILED. */
+/* Maps a regular file of a stated length for the rest of the run. Touching a page that the file has lost since ends the
+ * program with FAILED. */
 struct mapped_file map_file(const char *name);
 
-/* Ends the program with FAILED if a mapped file was cut short or changed since it was mapped. What it lost of its last page
- * reads as zeros, so an answer may be shown only after this. */
+/* Ends the program with FAILED if the file system records that a mapped file was cut short or changed since it was mapped.
+ * What it lost of its last page reads as zeros, so an answer may be shown only after this. */
 void check_mapped_files(void);
 
 /* Whether this is one of the mapped files. */

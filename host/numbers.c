@@ -45,23 +45,24 @@ static bool is_blank(int c)
     return c == ' ' || c == '\t' || c == '\r';
 }
 
-/* A line without its blanks at either end; false at the end of input. A line that fills the room is cut. */
+/* A line without its blanks at either end, those within as one; false at the end of input. What fills the room is cut. */
 static bool read_line(char *text, size_t room, size_t *length)
 {
     int c;
     size_t count = 0;
-    bool any = false;
+    bool any = false, blank_before = false;
     while ((c = getchar()) != EOF) {
         any = true;
         if (c == '\n')
             break;
-        if (count < room && !(count == 0 && is_blank(c)))
+        if (!is_blank(c) && blank_before && count > 0 && count < room)
+            text[count++] = ' ';
+        if (!is_blank(c) && count < room)
             text[count++] = (char)c;
+        blank_before = is_blank(c);
     }
     if (ferror(stdin))
         fail("standard input: %s", strerror(errno));
-    while (count > 0 && count < room && is_blank(text[count - 1]))
-        count--;
     *length = count;
     return any;
 }

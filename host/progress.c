@@ -1,5 +1,7 @@
 #include "progress.h"
 
+#include "fail.h"
+
 #include <errno.h>
 #include <signal.h>
 #include <stdatomic.h>
@@ -12,6 +14,7 @@
 static atomic_uint_fast64_t answers;
 static volatile sig_atomic_t seconds;
 static volatile sig_atomic_t running;
+static volatile sig_atomic_t shown;
 
 /* Lays the decimal digits of a number; snprintf may not be used in a signal handler. */
 static char *put_decimal(char *at, uint64_t number)
@@ -34,24 +37,22 @@ static char *put_text(char *at, const char *text)
     return at + length;
 }
 
-static void write_to_terminal(const char *text, size_t length)
-{
-    ssize_t written = write(STDERR_FILENO, text, length);
-    (void)written;
-}
-
 static void show_progress(int signal_number)
 {
     int saved = errno;
     char line[80];
     (void)signal_number;
+    if (!running)
+        return;
     char *at = put_text(line, "\rglintloom: ");
     seconds++;
     at = put_decimal(at, (uint64_t)seconds);
     at = put_text(at, " s, ");
     at = put_decimal(at, answers);
     at = put_text(at, " answered");
-    write_to_terminal(line, (size_t)(at - line));
+    *at = '\0';
+    shown = true;
+    write_to_standard_error(line);
     errno = saved;
 }
 
@@ -76,13 +77,41 @@ void count_answer(void)
     answers++;
 }
 
+static void erase_line(void)
+{
+    if (shown)
+        write_to_standard_error("\r\033[K");
+    shown = false;
+}
+
+/* Holds the timer's signal back, or lets it come. */
+static void mask_timer(int how)
+{
+    sigset_t timer;
+    sigemptyset(&timer);
+    sigaddset(&timer, SIGALRM);
+    sigprocmask(how, &timer, NULL);
+}
+
+void pause_progress(void)
+{
+    if (!running)
+        return;
+    mask_timer(SIG_BLOCK);
+    erase_line();
+}
+
+void resume_progress(void)
+{
+    if (running)
+        mask_timer(SIG_UNBLOCK);
+}
+
 void end_progress(void)
 {
-    static const char erase[] = "\r\033[K";
     if (!running)
         return;
     set_timer(0);
     running = false;
-    if (seconds > 0)
-        write_to_terminal(erase, sizeof erase - 1);
+    erase_line();
 }

@@ -8,7 +8,11 @@ void start_progress(void);
 /* Another answer was given. */
 void count_answer(void);
 
-/* Takes the shown progress away. May be called at any time, and from a signal handler. */
+/* Takes the shown line away and holds the next one back, so that something else can be printed on the terminal. */
+void pause_progress(void);
+void resume_progress(void);
+
+/* Takes the shown line away for good. May be called at any time, and from a signal handler. */
 void end_progress(void);
 
 #endif

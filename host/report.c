@@ -106,8 +106,11 @@ void begin_report(const char *verb, bool as_json)
 /* Begins the document with the first answer, so that wrong use leaves standard output empty. */
 static void open_report(void)
 {
-    if (isatty(STDOUT_FILENO))
+    /* A JSON document is one line, which a line of progress would wipe out. */
+    if (isatty(STDOUT_FILENO) && json)
         end_progress();
+    else if (isatty(STDOUT_FILENO))
+        pause_progress();
     if (report_open || !json)
         return;
     report_open = true;
@@ -250,6 +253,7 @@ void end_answer(void)
     end_item();
     count_answer();
     check_output(fflush(stdout) == 0);
+    resume_progress();
 }
 
 void report_number(uint64_t number)
@@ -282,6 +286,8 @@ void report_text(const char *text)
 
 void warn_of_zeros(uint64_t address)
 {
-    end_progress();
-    fprintf(stderr, "glintloom: 0x%016" PRIX64 ": %s\n", address, words_of(GLINT_ZEROS));
+    pause_progress();
+    if (fprintf(stderr, "glintloom: 0x%016" PRIX64 ": %s\n", address, words_of(GLINT_ZEROS)) < 0)
+        fail("standard error: %s", strerror(errno));
+    resume_progress();
 }

@@ -14,7 +14,8 @@ bool is_refusal(uint64_t number);
 void begin_report(const char *verb, bool json);
 void end_report(void);
 
-/* An item: what was asked, the number and its words, and what is added. It is a line with lines below it, or an object. */
+/* An item: what was asked (for a page, its start), the number and its words, and what is added. It is a line with lines
+ * below it, or an object. */
 void begin_item(const char *asked_name, uint64_t asked, uint64_t number);
 void add_offset(uint64_t number, uint64_t offset);
 void add_entries(uint64_t entries);
@@ -38,7 +39,7 @@ void end_answer(void);
 void report_number(uint64_t number);
 void report_text(const char *text);
 
-/* Tells on standard error that a page is one of zeros. */
+/* Tells on standard error that a page is one of zeros; ends the program with FAILED if it cannot be told. */
 void warn_of_zeros(uint64_t address);
 
 #endif

@@ -211,33 +211,53 @@ static void warn_of_zeros_in(const struct read_range *range)
             warn_of_zeros(first_byte(range, i));
 }
 
+static void report_refused_read(const struct case_files *files, uint64_t number, uint64_t address, uint64_t length)
+{
+    struct read_range range = {address, length, 0, NULL};
+    uint64_t refused;
+    bool at_address = first_refused(files, number, range, &refused);
+    check_mapped_files();
+    begin_item("address", address, number);
+    if (at_address)
+        add_refused_address(refused);
+    end_answer();
+}
+
+static void report_read(const struct command *command, const struct read_range *range, const uint8_t *bytes)
+{
+    size_t length = (size_t)range->length;
+    if (command->output != NULL) {
+        warn_of_zeros_in(range);
+        write_output_file(command->output, bytes, length);
+    }
+    begin_item("address", range->address, GLINT_DONE);
+    add_length(length);
+    report_read_pages(range, bytes, command->output == NULL);
+    if (command->output == NULL)
+        add_digits(bytes, length);
+    end_answer();
+}
+
 int read_verb(const struct command *command)
 {
     struct case_files files = map_case(command);
     uint64_t address = command->numbers[0], length = command->numbers[1];
+    glint_answer first = glint_resolve(SLICES(files), address);
+    /* A refused first byte needs no memory for the others. */
+    if (length > 0 && is_refusal(first.number)) {
+        report_refused_read(&files, first.number, address, length);
+        return REFUSED;
+    }
     uint8_t *bytes = allocate(length, 1);
     glint_bytes read = glint_read(SLICES(files), address, length, bytes, (size_t)length);
-    struct read_range range = {address, length, 0, NULL};
-    uint64_t refused = address;
-    bool at_address = is_refusal(read.number) && first_refused(&files, read.number, range, &refused);
-    if (!is_refusal(read.number))
-        range = resolve_pages(&files, address, read.length);
-    check_mapped_files();
-    if (!is_refusal(read.number) && command->output != NULL) {
-        warn_of_zeros_in(&range);
-        write_output_file(command->output, bytes, (size_t)read.length);
+    if (is_refusal(read.number)) {
+        report_refused_read(&files, read.number, address, length);
+    } else {
+        struct read_range range = resolve_pages(&files, address, length);
+        check_mapped_files();
+        report_read(command, &range, bytes);
+        free(range.pages);
     }
-    begin_item("address", address, read.number);
-    if (!is_refusal(read.number)) {
-        add_length(read.length);
-        report_read_pages(&range, bytes, command->output == NULL);
-        if (command->output == NULL)
-            add_digits(bytes, (size_t)read.length);
-    }
-    if (at_address)
-        add_refused_address(refused);
-    end_answer();
-    free(range.pages);
     free(bytes);
     return status_of(read.number);
 }

@@ -1,11 +1,13 @@
 """Wrong use, files that cannot be had, and standard output that cannot be written: exit status 2 and a clear line."""
 import os
 import pty
+import re
 import subprocess
 import time
 
 from cases import shipped_case
-from program import ANSWERED, ENVIRONMENT, FAILED, ROOT, Conversation, HostTest, command, run
+from expected import place
+from program import ANSWERED, ENVIRONMENT, FAILED, ROOT, Conversation, HostTest, command, run, run_redirected
 
 NO_NUMBERS = ("", "x", "0x", "-1", "+1", " 1", "1 ", "0x1G", "0b1", "1.5", "12abc", "0x-1", "1,000", "0x1 0x2", "ff")
 TOO_LARGE = ("18446744073709551616", "0x10000000000000000", "99999999999999999999999999", "0x1" + "0" * 40)
@@ -19,12 +21,6 @@ CASE_VERBS = {
     "processor-block": [],
     "list": ["0"],
 }
-
-
-def run_closed(redirections, *words):
-    """Runs with standard descriptors closed by the shell."""
-    shell = ["sh", "-c", f'exec "$@" {redirections}', "sh"]
-    return subprocess.run(shell + command(*words), capture_output=True, env=ENVIRONMENT)
 
 
 class WrongUse(HostTest):
@@ -129,13 +125,16 @@ class InputFiles(HostTest):
         self.each_place(self.directory / "pipe", "not a regular file")
         self.each_place("/dev/null", "not a regular file")
 
+    def test_no_stated_length(self):
+        self.each_place("/proc/version", "/proc/version: has no stated length")
+
     def test_unreadable(self):
         self.case[1].chmod(0)
         self.fails(["resolve", *self.case, "0"], "image: Permission denied", **self.as_nobody())
 
     def test_closed_input(self):
         """No file takes the descriptor of a closed standard input."""
-        shown = run_closed("<&-", "resolve", *self.case)
+        shown = run_redirected("<&-", "resolve", *self.case)
         self.assertEqual((shown.returncode, shown.stdout), (FAILED, b""))
         self.assertEqual(shown.stderr, b"glintloom: standard input: Bad file descriptor\n")
 
@@ -175,13 +174,13 @@ class StandardOutput(HostTest):
 
     def test_closed_output(self):
         for words in self.commands:
-            shown = run_closed(">&-", *words)
+            shown = run_redirected(">&-", *words)
             self.assertEqual(shown.returncode, FAILED)
             self.assertIn(b"standard output: Bad file descriptor", shown.stderr)
 
     def test_closed_output_leaves_the_file_alone(self):
         """No file takes the descriptor of a closed standard output."""
-        shown = run_closed(">&- 2>&- <&-", "page", *self.case, "0x777B0000", "-o", self.directory / "page")
+        shown = run_redirected(">&- 2>&- <&-", "page", *self.case, "0x777B0000", "-o", self.directory / "page")
         self.assertEqual(shown.returncode, FAILED)
         self.assertEqual((self.directory / "page").read_bytes(), self.case[1].read_bytes()[0x5000:0x6000])
 
@@ -196,19 +195,55 @@ class StandardOutput(HostTest):
 class Progress(HostTest):
     """Shown on a terminal from the first second on, never in a pipe."""
 
+    LINES = r"(\rglintloom: \d+ s, %s answered)"
+    ERASED = r"\r\x1b\[K"
+
     def setUp(self):
         super().setUp()
         self.case = shipped_case(self.directory).words()
         self.reader, self.writer = pty.openpty()
         self.addCleanup(os.close, self.reader)
 
+    def shown_until(self, text):
+        shown = ""
+        while text not in shown:
+            shown += os.read(self.reader, 4096).decode()
+        return shown
+
+    def shown_to_the_end(self):
+        """What is left to read once nobody writes."""
+        os.write(self.writer, b"end")
+        os.close(self.writer)
+        return self.shown_until("end")
+
     def test_on_a_terminal(self):
         talk = Conversation("resolve", *self.case, stderr=self.writer)
         talk.ask(b"0xB38000")
-        shown = os.read(self.reader, 4096)
+        shown = self.shown_until("answered")
         self.assertEqual(talk.end(b"0xB38000")[0], ANSWERED)
-        os.close(self.writer)
-        self.assertRegex(shown + os.read(self.reader, 4096), rb"\A(\rglintloom: [1-9] s, 1 answered)+\r\x1b\[K\Z")
+        shown += self.shown_to_the_end()
+        self.assertRegex(shown, rf"\A{self.LINES % '[012]'}+{self.ERASED}end\Z")
+
+    def test_goes_on_between_answers(self):
+        """Answers on the same terminal: the line makes way for each and comes again."""
+        talk = Conversation("resolve", *self.case, stdout=self.writer, stderr=self.writer)
+        talk.send(b"0xB38000")
+        shown = self.shown_until("1 answered")
+        self.assertEqual(talk.end(b"0xB38000")[0], ANSWERED)
+        shown += self.shown_to_the_end()
+        answer = re.escape(place(0xB38000, 3, 0, 4)) + "\r\n"
+        before, between, after = (f"({self.LINES % count}+{self.ERASED})" for count in (0, 1, 2))
+        self.assertRegex(shown, rf"\A{before}?{answer}{between}{answer}{after}?end\Z")
+
+    def test_not_within_a_document(self):
+        """JSON on the same terminal is one line, which stays."""
+        talk = Conversation("resolve", "--json", *self.case, stdout=self.writer, stderr=self.writer)
+        talk.send(b"0xB38000")
+        shown = self.shown_until("}")
+        time.sleep(1.3)
+        self.assertEqual(talk.end()[0], ANSWERED)
+        shown += self.shown_to_the_end()
+        self.assertRegex(shown, rf'\A({self.LINES % 0}+{self.ERASED})?{{"verb":[^\r]*]}}\r\nend\Z')
 
     def test_not_in_a_pipe(self):
         talk = Conversation("resolve", *self.case)
@@ -218,10 +253,9 @@ class Progress(HostTest):
         self.assertEqual((status, error), (ANSWERED, b""))
 
     def test_not_for_short_work(self):
+        """If it took a second all the same, the line is gone at the end."""
         subprocess.run(command("help"), stdout=subprocess.DEVNULL, stderr=self.writer, env=ENVIRONMENT, check=True)
-        os.write(self.writer, b"end")
-        os.close(self.writer)
-        self.assertEqual(os.read(self.reader, 4096), b"end")
+        self.assertRegex(self.shown_to_the_end(), rf"\A({self.LINES % 0}+{self.ERASED})?end\Z")
 
 
 class ManualPage(HostTest):

@@ -29,8 +29,9 @@ class Resolve(HostTest):
         words = ["0xb35fff", "0XB35FFF", "11755519", "00011755519", "0x0000000000B35FFF", "0x0000000000000000B35FFF"]
         lines = [place(0xB35FFF, 2, 0x1FFF, 4)] * len(words)
         self.says(["resolve", *self.case, *words], ANSWERED, lines)
-        text = " \t" + "\t \r\n\n  \n".join(words)
-        self.says(["resolve", *self.case], ANSWERED, lines, input=text.encode())
+        for blanks in ("", " " * 500):
+            text = f" \t{blanks}" + f"\t \r{blanks}\n\n  \n".join(words)
+            self.says(["resolve", *self.case], ANSWERED, lines, input=text.encode())
 
     def test_ends_of_64_bits(self):
         words = ["0", "0xFFFFFFFFFFFFFFFF", "18446744073709551615"]
@@ -140,7 +141,10 @@ class PageAndRead(HostTest):
 
     def test_read_longer_than_memory(self):
         for length in ("0xFFFFFFFFFFFFFFFF", "0x7FFFFFFFFFFFFFFF"):
-            self.fails(["read", *self.case, "0x1D0000", length], "not enough memory")
+            self.fails(["read", *self.case, "0x777B0000", length], "not enough memory")
+            self.refuses("0x1D0123", length, place(0x1D0123, 22) + first_at(0x1D0123))
+            self.refuses("0x800000000000", length, place(0x800000000000, 20) + first_at(0x800000000000))
+            self.says(["read", self.case[1], *self.case[1:], "0x777B0000", length], REFUSED, [place(0x777B0000, 12)])
 
 
 class MapAndLookup(HostTest):
