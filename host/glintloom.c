@@ -20,7 +20,7 @@ enum { ANY_COUNT = -1 };
 struct verb {
     const char *name;
     int files;                         /* 3 is a case: sheet, image and pagefile */
-    int fewest_numbers, most_numbers;  /* operands behind the files; none where there may be any count: standard input */
+    int fewest_numbers, most_numbers;  /* operands behind the files */
     int options;
     int (*run)(const struct command *command);
 };
@@ -53,8 +53,8 @@ static const char help_text[] =
     "names the first address that is refused.\n"
     "The files must not be changed while the program runs.\n"
     "\n"
-    "Exit status: 0 answered; 1 refused, also if only one of several addresses is; 2 wrong use, or a file that\n"
-    "cannot be had or written: then what stands on standard output may not be all.\n";
+    "Exit status: 0 answered; 1 refused, also if only one of several addresses is; 2 wrong use, a file that cannot\n"
+    "be had or written, or lack of memory: then what stands on standard output may not be all.\n";
 
 static int help_verb(const struct command *command)
 {
@@ -161,7 +161,7 @@ static struct command judge(const struct verb *verb, const struct arguments *arg
 /* Opens a closed standard descriptor so that no file takes its number, the wrong way round so that its use is an error. */
 static void hold_standard_descriptors(void)
 {
-    static const int modes[] = {O_WRONLY, O_RDONLY, O_WRONLY};
+    static const int modes[] = {O_WRONLY, O_RDONLY, O_RDONLY};
     for (int descriptor = 0; descriptor <= STDERR_FILENO; descriptor++)
         if (fcntl(descriptor, F_GETFD) < 0 && open("/dev/null", modes[descriptor]) != descriptor)
             exit(FAILED);
@@ -180,8 +180,8 @@ int main(int count, char **words)
     const struct verb *verb = verb_named(words[1]);
     struct arguments arguments = split(verb, words + 2, count - 2);
     struct command command = judge(verb, &arguments);
-    bool typed = verb->files > 0 && verb->most_numbers == ANY_COUNT && command.number_count == 0 && isatty(STDIN_FILENO);
-    if (!typed)
+    bool from_input = verb->files > 0 && verb->most_numbers == ANY_COUNT && command.number_count == 0;
+    if (!from_input || !isatty(STDIN_FILENO))
         start_progress();
     begin_report(verb->name, arguments.json);
     int status = verb->run(&command);

@@ -38,13 +38,14 @@ static void discard_and_end(int signal_number)
     raise(signal_number);
 }
 
-/* No temporary file stays behind if the program is told to end; a signal that is ignored stays so. */
+/* No temporary file stays behind if a signal ends the program; one that is ignored, or is the progress timer, stays so. */
 static void watch_for_end(void)
 {
-    static const int signals[] = {SIGHUP, SIGINT, SIGTERM};
+    static const int signals[] = {SIGHUP,  SIGINT,  SIGQUIT,   SIGTERM, SIGUSR1, SIGUSR2,
+                                  SIGALRM, SIGPOLL, SIGVTALRM, SIGPROF, SIGXCPU};
     struct sigaction before, action = {.sa_handler = discard_and_end};
     for (size_t i = 0; i < sizeof signals / sizeof signals[0]; i++)
-        if (sigaction(signals[i], NULL, &before) == 0 && before.sa_handler != SIG_IGN)
+        if (sigaction(signals[i], NULL, &before) == 0 && before.sa_handler == SIG_DFL)
             sigaction(signals[i], &action, NULL);
 }
 
@@ -90,14 +91,55 @@ static mode_t mode_of_new_files(void)
     return 0666 & ~mask;
 }
 
-static void replace_whole(const char *name, mode_t mode, const uint8_t *bytes, size_t length)
+/* Owner, group and permissions of the file that is replaced; the bits that lend its owner's rights are not kept. */
+static bool set_owner_and_mode(int descriptor, const struct stat *replaced)
+{
+    if (replaced == NULL)
+        return fchmod(descriptor, mode_of_new_files()) == 0;
+    return fchown(descriptor, replaced->st_uid, replaced->st_gid) == 0 && fchmod(descriptor, replaced->st_mode & 0777) == 0;
+}
+
+/* `replaced` is NULL if there is no such file yet. */
+static void write_whole(const char *name, const struct stat *replaced, const uint8_t *bytes, size_t length)
 {
     watch_for_end();
     int descriptor = open_temporary(name);
-    if (descriptor < 0 || fchmod(descriptor, mode) != 0 || !write_all(descriptor, bytes, length) ||
+    if (descriptor < 0 || !set_owner_and_mode(descriptor, replaced) || !write_all(descriptor, bytes, length) ||
         fsync(descriptor) != 0 || close(descriptor) != 0 || rename(temporary, name) != 0)
         fail_to_write(name);
     unfinished = false;
+}
+
+static void write_new(const char *name, const uint8_t *bytes, size_t length)
+{
+    struct stat status;
+    if (lstat(name, &status) == 0)
+        fail("%s: is a symbolic link to a file that is not there", name);
+    write_whole(name, NULL, bytes, length);
+}
+
+/* A symbolic link stays one; the file that it names is replaced, unless it is write-protected. */
+static void replace(const char *name, const struct stat *status, const uint8_t *bytes, size_t length)
+{
+    char *target = realpath(name, NULL);
+    if (target == NULL || access(target, W_OK) != 0)
+        fail_to_write(name);
+    write_whole(target, status, bytes, length);
+    free(target);
+}
+
+static bool is_descriptor(int descriptor, const struct stat *status)
+{
+    struct stat open_file;
+    return fstat(descriptor, &open_file) == 0 && open_file.st_dev == status->st_dev && open_file.st_ino == status->st_ino;
+}
+
+/* Whether this is a name such as /dev/fd/3: what is open there is not to be replaced by another file. */
+static bool names_a_descriptor(const char *name)
+{
+    struct stat link, proc;
+    return lstat(name, &link) == 0 && S_ISLNK(link.st_mode) && stat("/proc/self", &proc) == 0 &&
+           link.st_dev == proc.st_dev;
 }
 
 void write_output_file(const char *name, const uint8_t *bytes, size_t length)
@@ -106,19 +148,19 @@ void write_output_file(const char *name, const uint8_t *bytes, size_t length)
     if (stat(name, &status) != 0) {
         if (errno != ENOENT)
             fail_to_write(name);
-        replace_whole(name, mode_of_new_files(), bytes, length);
+        write_new(name, bytes, length);
         return;
     }
     if (is_mapped_file(&status))
         fail("%s: is an input file, and is not written over", name);
-    if (!S_ISREG(status.st_mode)) {
+    if (is_descriptor(STDOUT_FILENO, &status))
+        fail("%s: is standard output", name);
+    if (is_descriptor(STDERR_FILENO, &status))
+        fail("%s: is standard error", name);
+    if (!S_ISREG(status.st_mode))
         write_directly(name, bytes, length);
-        return;
-    }
-    /* A symbolic link stays one; the file that it names is replaced, unless it is write-protected. */
-    char *target = realpath(name, NULL);
-    if (target == NULL || access(target, W_OK) != 0)
-        fail_to_write(name);
-    replace_whole(target, status.st_mode & 07777, bytes, length);
-    free(target);
+    else if (names_a_descriptor(name))
+        fail("%s: names a descriptor of a regular file", name);
+    else
+        replace(name, &status, bytes, length);
 }

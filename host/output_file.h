@@ -6,7 +6,8 @@
 #include <stdint.h>
 
 /* Writes a file whole: to a temporary name in its directory, which takes the file's name at the end. A device or pipe is
- * written to directly. Ends the program with FAILED if it cannot be written, or if it is one of the mapped files. */
+ * written to directly. Ends the program with FAILED if it cannot be written, or if it is one of the mapped files, standard
+ * output or standard error. */
 void write_output_file(const char *name, const uint8_t *bytes, size_t length);
 
 /* Removes the temporary file, if there is one. May be called from a signal handler. */

@@ -7,7 +7,8 @@ import time
 from pathlib import Path
 
 from cases import PAGE, RING_PAGES, large_page_case, ring_case, shipped_case
-from program import ANSWERED, ENVIRONMENT, FAILED, REFUSED, Conversation, HostTest, command, run
+from program import ANSWERED, ENVIRONMENT, FAILED, NOBODY, REFUSED
+from program import Conversation, HostTest, command, run, run_redirected
 
 MARK = "page of zeros, by the tables"
 TRIES = 40
@@ -84,11 +85,70 @@ class OutputFiles(HostTest):
         self.writes(words, self.image_page)
         self.assertEqual(self.out.stat().st_mode & 0o777, 0o604)
 
+    def test_setuid_is_not_kept(self):
+        if os.geteuid() != 0:
+            self.skipTest("only root can replace another's file and keep its owner")
+        self.out.write_bytes(b"old")
+        os.chown(self.out, NOBODY, NOBODY)
+        self.out.chmod(0o6755)
+        self.writes(["page", *self.case, "0x777B0000"], self.image_page)
+        status = self.out.stat()
+        self.assertEqual((status.st_uid, status.st_gid, status.st_mode & 0o7777), (NOBODY, NOBODY, 0o755))
+
+    def test_owner_that_cannot_be_kept(self):
+        if os.geteuid() != 0:
+            self.skipTest("only root can make a file of another owner")
+        self.out.write_bytes(b"as it was")
+        self.out.chmod(0o666)
+        self.out.parent.chmod(0o777)
+        self.fails(["page", *self.case, "0x777B0000", "-o", self.out], "out: Operation not permitted", **self.as_nobody())
+        self.assertEqual((os.listdir(self.out.parent), self.out.read_bytes()), (["out"], b"as it was"))
+
     def test_link_stays_one(self):
         target = self.write("target", b"old")
         self.out.symlink_to(target)
         self.writes(["page", *self.case, "0x777B0000"], self.image_page)
         self.assertEqual((self.out.is_symlink(), target.read_bytes()), (True, self.image_page))
+
+    def test_link_to_nothing_stays_one(self):
+        self.out.symlink_to(self.directory / "missing")
+        words = ["page", *self.case, "0x777B0000", "-o", self.out]
+        self.fails(words, "out: is a symbolic link to a file that is not there")
+        self.assertEqual((os.listdir(self.out.parent), os.path.lexists(self.directory / "missing")), (["out"], False))
+        self.assertTrue(self.out.is_symlink())
+
+    def test_standard_output_and_error(self):
+        words = ["page", *self.case, "0x777B0000", "-o"]
+        for name in ("/dev/stdout", "/dev/fd/1", "/proc/self/fd/1"):
+            self.fails([*words, name], f"{name}: is standard output")
+        for name in ("/dev/stderr", "/dev/fd/2"):
+            self.fails([*words, name], f"{name}: is standard error")
+
+    def redirected(self, redirections, name, message):
+        """The file that the shell redirects to keeps what it had."""
+        self.out.write_bytes(b"as it was\n")
+        done = run_redirected(f"{redirections} '{self.out}'", "page", *self.case, "0x777B0000", "-o", name)
+        told = f"glintloom: {name}: {message}\n".encode()
+        self.assertEqual(done.returncode, FAILED)
+        self.assertEqual(done.stdout + done.stderr + self.out.read_bytes().removeprefix(b"as it was\n"), told)
+        self.assertEqual(os.listdir(self.out.parent), ["out"])
+        return self.out.read_bytes()
+
+    def test_files_behind_descriptors(self):
+        for name in ("/dev/stdout", self.out):
+            self.assertEqual(self.redirected(">>", name, "is standard output"), b"as it was\n")
+            self.assertEqual(self.redirected(">", name, "is standard output"), b"")
+        for name in ("/dev/stderr", self.out):
+            self.assertTrue(self.redirected("2>>", name, "is standard error").startswith(b"as it was\n"))
+        stays = self.redirected("5>>", "/dev/fd/5", "names a descriptor of a regular file")
+        self.assertEqual(stays, b"as it was\n")
+
+    def test_zeros_that_cannot_be_marked(self):
+        """No file is made if nobody is told of its zeros."""
+        for redirection in ("2>/dev/full", "2>&-"):
+            for words in (["page", *self.case, "0xB38000"], ["read", *self.case, "0xB37FFE", "5"]):
+                done = run_redirected(redirection, *words, "-o", self.out)
+                self.assertEqual((done.returncode, done.stdout, os.listdir(self.out.parent)), (FAILED, b"", []))
 
     def test_name_in_the_working_directory(self):
         done = run("page", *self.case, "0x777B0000", "-o", "out", cwd=self.out.parent)
@@ -160,7 +220,10 @@ class CutShort(HostTest):
 
     def test_other_changes(self):
         def lengthen(name):
-            os.truncate(name, name.stat().st_size + 1)
+            """The time of change stays, as it does where the clock is coarse."""
+            times = name.stat()
+            os.truncate(name, times.st_size + 1)
+            os.utime(name, ns=(times.st_atime_ns, times.st_mtime_ns))
 
         def write_over(name):
             name.open("r+b").write(b"\1")
@@ -202,8 +265,8 @@ class CutShort(HostTest):
         files, _ = ring_case(self.directory)
         content, out = files.image.read_bytes(), self.directory / "results" / "out"
         out.parent.mkdir()
-        out.write_bytes(b"as it was")
         for _ in range(TRIES):
+            out.write_bytes(b"as it was")
             files.image.write_bytes(content)
             status, shown, error = self.cut_while_mapped(files.image, ["map", *files.words(), 0, RING_PAGES, "-o", out])
             if status == FAILED:
@@ -217,21 +280,52 @@ class ToldToEnd(HostTest):
     """A signal while the output file is written leaves no temporary file."""
 
     LENGTH = 64 << 20
+    SIGNALS = (
+        signal.SIGHUP,
+        signal.SIGINT,
+        signal.SIGQUIT,
+        signal.SIGTERM,
+        signal.SIGUSR1,
+        signal.SIGUSR2,
+        signal.SIGALRM,
+        signal.SIGPOLL,
+        signal.SIGVTALRM,
+        signal.SIGPROF,
+        signal.SIGXCPU,
+    )
 
-    def end_while_writing(self, out, words):
-        child = subprocess.Popen(command(*words), stdout=subprocess.DEVNULL, stderr=subprocess.DEVNULL, env=ENVIRONMENT)
-        while child.poll() is None and not any(name.startswith(".glintloom-") for name in os.listdir(out.parent)):
+    def setUp(self):
+        super().setUp()
+        files = large_page_case(self.directory, self.LENGTH // PAGE)
+        self.out = self.directory / "results" / "out"
+        self.out.parent.mkdir()
+        self.words = ["read", *files.words(), 0, self.LENGTH, "-o", self.out]
+
+    def is_writing(self):
+        return any(name.startswith(".glintloom-") for name in os.listdir(self.out.parent))
+
+    def end_while_writing(self, number):
+        """Whether the signal came before the file had its name; if not, the file is whole."""
+        def prepare():
+            resource.setrlimit(resource.RLIMIT_CORE, (0, 0))
+            signal.signal(number, signal.SIG_DFL)
+
+        nowhere = {"stdout": subprocess.DEVNULL, "stderr": subprocess.DEVNULL}
+        child = subprocess.Popen(command(*self.words), env=ENVIRONMENT, preexec_fn=prepare, **nowhere)
+        while child.poll() is None and not self.is_writing():
             time.sleep(0.0002)
-        child.send_signal(signal.SIGTERM)
-        return child.wait(timeout=60)
+        child.send_signal(number)
+        status = child.wait(timeout=60)
+        self.assertIn(status, (ANSWERED, -number))
+        self.assertFalse(self.is_writing())
+        if not self.out.exists():
+            self.assertEqual(status, -number)
+            return True
+        self.assertEqual(self.out.stat().st_size, self.LENGTH)
+        self.out.unlink()
+        return False
 
     def test_by_signal(self):
-        files = large_page_case(self.directory, self.LENGTH // PAGE)
-        out = self.directory / "results" / "out"
-        out.parent.mkdir()
-        words = ["read", *files.words(), 0, self.LENGTH, "-o", out]
-        for _ in range(TRIES):
-            if self.end_while_writing(out, words) == -signal.SIGTERM:
-                break
-            out.unlink()
-        self.assertEqual(os.listdir(out.parent), [])
+        for number in self.SIGNALS:
+            if not any(self.end_while_writing(number) for _ in range(TRIES)):
+                self.skipTest(f"{number.name} never came while the file was written")
