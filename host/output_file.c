@@ -38,15 +38,22 @@ static void discard_and_end(int signal_number)
     raise(signal_number);
 }
 
-/* No temporary file stays behind if a signal ends the program; one that is ignored, or is the progress timer, stays so. */
+static bool ends_by_default(int signal_number)
+{
+    static const int others[] = {SIGCHLD, SIGCONT, SIGTSTP, SIGTTIN, SIGTTOU, SIGURG, SIGWINCH};
+    for (size_t i = 0; i < sizeof others / sizeof others[0]; i++)
+        if (signal_number == others[i])
+            return false;
+    return true;
+}
+
+/* No temporary file stays behind if a signal ends the program; one that is ignored or handled stays so. */
 static void watch_for_end(void)
 {
-    static const int signals[] = {SIGHUP,  SIGINT,  SIGQUIT,   SIGTERM, SIGUSR1, SIGUSR2,
-                                  SIGALRM, SIGPOLL, SIGVTALRM, SIGPROF, SIGXCPU};
     struct sigaction before, action = {.sa_handler = discard_and_end};
-    for (size_t i = 0; i < sizeof signals / sizeof signals[0]; i++)
-        if (sigaction(signals[i], NULL, &before) == 0 && before.sa_handler == SIG_DFL)
-            sigaction(signals[i], &action, NULL);
+    for (int number = 1; number <= SIGRTMAX; number++)
+        if (ends_by_default(number) && sigaction(number, NULL, &before) == 0 && before.sa_handler == SIG_DFL)
+            sigaction(number, &action, NULL);
 }
 
 static bool write_all(int descriptor, const uint8_t *bytes, size_t length)

@@ -292,6 +292,8 @@ class ToldToEnd(HostTest):
         signal.SIGVTALRM,
         signal.SIGPROF,
         signal.SIGXCPU,
+        signal.SIGPWR,
+        signal.SIGRTMIN,
     )
 
     def setUp(self):

@@ -2,6 +2,7 @@
 import os
 import pty
 import re
+import select
 import subprocess
 import time
 
@@ -207,6 +208,7 @@ class Progress(HostTest):
     def shown_until(self, text):
         shown = ""
         while text not in shown:
+            self.assertTrue(select.select([self.reader], [], [], 30)[0], shown)
             shown += os.read(self.reader, 4096).decode()
         return shown
 
