@@ -153,7 +153,7 @@ void write_output_file(const char *name, const uint8_t *bytes, size_t length)
 {
     struct stat status;
     if (stat(name, &status) != 0) {
-        if (errno != ENOENT)
+        if (errno != ENOENT || name[0] == '\0')
             fail_to_write(name);
         write_new(name, bytes, length);
         return;
