@@ -1,16 +1,14 @@
 -- Every answer for a canonical address of a case can stand in a map: its code is listed, and its file page is below 2^36.
-use mathlib.Core.Path.{_≡_, refl, sym, ap, _∙_}
-use mathlib.Core.Bool.{Bool, true, false, not, _&&_, _||_}
-use mathlib.Core.List.{List, [], _∷_}
-use Prim.Native.Nat.{ℕ, zero, suc, _+_, _-_, _*_, _/_, _%_, _^_, _≤_, _<_}
+use mathlib.Core.Path.{_≡_, refl}
+use mathlib.Core.Bool.{Bool, true, false, not, _&&_}
+use Prim.Native.Nat.{ℕ, zero, suc, _+_, _-_, _*_, _%_, _^_, _≤_, _<_}
 use native.Mathlib.Omega.{arith}
 use lib.Dec.{eqb, leb, ltb}
 use lib.ListN.{length}
-use borrow.Author.Tests.{lt-ltb, eq-eqb, ne-eqb, eqb-true, eqb-false}
+use borrow.Author.Tests.{lt-ltb, eqb-true, eqb-false}
 use Rattle.base.specs.Notation.{if_then_else_, bits, bit}
 use Rattle.base.specs.Refusal.{refusalNumber}
-use Rattle.base.specs.declared.Refusal.{Refusal}
-use Rattle.base.specs.declared.Refusal.the-variants.{NotCanonical, PrototypeUnaligned, PastPagefile, FrameTooWide, FileBacked, OtherPagefile, UpperEntryNotValid}
+use Rattle.base.specs.declared.Refusal.the-variants.{PrototypeUnaligned, PastPagefile, FrameTooWide, FileBacked, OtherPagefile, UpperEntryNotValid}
 use Rattle.entry.specs.Pages.{pagefilePage}
 use Rattle.entry.specs.Entry.{levelOf, valid, wide, frameOf, largeOf, upperOf, validOf, transition, transitionOf, prototype, extended, softwareOf, leafOf, prototypeOf}
 use Rattle.entry.specs.declared.Frame.{Frame}
@@ -24,7 +22,7 @@ use Rattle.entry.specs.declared.Upper.the-variants.{Table, Ends, UpperNeedsRegi
 use Rattle.entry.specs.declared.Leaf.{Leaf}
 use Rattle.entry.specs.declared.Leaf.the-variants.{Settled, Prototype, NeedsRegion}
 use Rattle.words.specs.Words.{wordAt}
-use Rattle.walk.specs.Walk.{World, Walked, Trail, Next, noMore, deeper, inPage, frameIn, settleOf, wordIn, entryOffset, entryOf, upperStep, descendOf, halt, leafStep, protoStep, follow, judgedAt, bodyOf, resolveOf, reachable, canonical, noting, stop}
+use Rattle.walk.specs.Walk.{World, Walked, Trail, Next, noMore, deeper, inPage, frameIn, settleOf, wordIn, entryOffset, entryOf, upperStep, descendOf, halt, leafStep, protoStep, follow, judgedAt, bodyOf, resolveOf, reachable, canonical, stop}
 use Rattle.walk.specs.declared.Found.{Found}
 use Rattle.walk.specs.declared.Found.the-variants.{Page, Absent}
 use Rattle.walk.specs.declared.Place.{Place}

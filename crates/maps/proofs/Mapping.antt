@@ -1,12 +1,9 @@
 -- Writing a map page by page, and what the map call makes of it.
 use mathlib.Core.Path.{_≡_, refl, sym, ap, _∙_}
-use mathlib.Core.Bool.{Bool, true, false}
+use mathlib.Core.Bool.{true}
 use mathlib.Core.List.{List, [], _∷_, _++_, append-assoc}
-use Prim.Native.Nat.{ℕ, zero, suc, _+_, _-_, _*_, _/_, _%_, _^_, _≤_, _<_}
-use native.Mathlib.Nat.{add-zero}
-use native.Mathlib.Numerals.{add-one}
+use Prim.Native.Nat.{ℕ, zero, suc, _+_, _-_, _*_, _/_, _^_, _≤_, _<_}
 use native.Mathlib.Omega.{arith}
-use lib.Dec.{ltb}
 use lib.ListN.{length, length-append}
 use lib.Seq.{sets, length-sets}
 use borrow.Author.Tests.{lt-ltb, le-ltb}
@@ -21,7 +18,6 @@ use Rattle.varint.proofs.Overlay.{wrote-then}
 use Rattle.walk.specs.Walk.{World, resolveOf}
 use Rattle.walk.specs.Rows.{resolvedOf}
 use Rattle.walk.specs.declared.Resolved.{Resolved}
-use Rattle.walk.specs.declared.Place.{Place}
 use Rattle.walk.proofs.Ground.{Sound}
 use Rattle.address.specs.Address.{placeAnswer}
 use Rattle.address.specs.declared.Answer.{Answer}
@@ -34,9 +30,9 @@ use Rattle.extents.proofs.Feeding.{fed-none, fed-then, fed-finish, fit-empty, f
 use Rattle.extents.proofs.ReadBack.{listed-small}
 use Rattle.maps.specs.MapOf.{pageAnswer, pagesOf, headerBytes, mapOf, allowed, mapInWorld}
 use Rattle.base.specs.declared.Written.{Written}
-use Rattle.base.specs.Written.{WriteOutcome, notWritten, unwritten, written}
-use Rattle.maps.proofs.Codes.{Mapped, resolve-mapped, clean-answer}
-use Rattle.maps.proofs.Ranges.{Allowed, allowed-range, range-top, InRange, in-range}
+use Rattle.base.specs.Written.{notWritten}
+use Rattle.maps.proofs.Codes.{resolve-mapped, clean-answer}
+use Rattle.maps.proofs.Ranges.{allowed-range, in-range}
 
 pub header-written : (start count : ℕ) {o o₁ o₂ o₃ : List ℕ} {a b r : ℕ} → Wrote o 0 (encode 1) a o₁ → Wrote o₁ a (encode (virtualPageOf start .0)) b o₂ → Wrote o₂ b (encode count) r o₃ → Wrote o 0 (headerBytes start count) r o₃
 unfolding headerBytes

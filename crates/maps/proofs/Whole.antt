@@ -1,20 +1,20 @@
 -- Demand 3, and the map call above the two passes.
 use mathlib.Core.Path.{_≡_, refl, sym, ap, subst, _∙_}
-use mathlib.Core.Bool.{Bool, true, false, not, _&&_, _||_}
-use mathlib.Core.List.{List, [], _∷_, _++_}
+use mathlib.Core.Bool.{true, false}
+use mathlib.Core.List.{List, [], _∷_}
 use Prim.Native.Nat.{ℕ, zero, suc, _+_, _-_, _*_, _/_, _%_, _^_, _≤_, _<_}
 use native.Mathlib.Omega.{arith}
-use lib.Dec.{eqb, leb, ltb}
-use lib.ListN.{length, take, drop, getD}
-use lib.Seq.{sets, sets-eq, take-at}
-use borrow.Author.Tests.{lt-ltb, le-ltb, le-leb, eq-eqb, ne-eqb}
+use lib.Dec.{ltb}
+use lib.ListN.{length, take, drop}
+use lib.Seq.{sets-eq, take-at}
+use borrow.Author.Tests.{lt-ltb, le-ltb, le-leb, ne-eqb}
 use Rattle.base.specs.Notation.{if_then_else_, bits}
 use Rattle.base.specs.Refusal.{refusalNumber}
 use Rattle.base.specs.declared.Refusal.{Refusal}
 use Rattle.base.specs.declared.Refusal.the-variants.{BadMapRange, MapBufferShort}
 use Rattle.base.proofs.Test.{Test, test, below, above}
 use Rattle.base.proofs.Numbers.{ten-or-more}
-use Rattle.sheet.specs.Sheet.{Sheet, Check, accepted, pagesIn}
+use Rattle.sheet.specs.Sheet.{pagesIn}
 use Rattle.sheet.specs.Sheet as sheet
 use Rattle.sheet.specs.Answer.{RowNumbers}
 use Rattle.sheet.specs.declared.Checked.{Checked}
@@ -30,20 +30,19 @@ use Rattle.address.specs.Case.{checkOf}
 use Rattle.address.specs.Address.{GroundedIn}
 use Rattle.extents.specs.Reading.{mapFields}
 use Rattle.extents.specs.Extents.{PageAnswer, carries, extentsOf, pageAt}
-use Rattle.extents.specs.Answers.{page, pageOf, Normal, SameAnswer, AnswersAs, Clean, AllClean}
-use Rattle.extents.specs.Layout.{mapBytes}
+use Rattle.extents.specs.Answers.{page, pageOf, Normal, SameAnswer, AllClean}
 use Rattle.extents.specs.declared.Extent.{Extent}
 use Rattle.extents.proofs.Pages.{both-true, pages-back}
 use Rattle.extents.proofs.Fewest.{fewest}
 use Rattle.extents.proofs.ReadBack.{reads-back}
-use Rattle.lookup.specs.Lookup.{answerAt, lookupIn, lookupOf}
+use Rattle.lookup.specs.Lookup.{answerAt, lookupOf}
 use Rattle.lookup.specs.declared.Looked.{Looked}
 use Rattle.maps.specs.MapOf.{pageAnswer, pagesOf, mapOf, allowed, mapInWorld, mapCall}
-use Rattle.maps.specs.Demand3.{walkAnswer, AnswersAsWalk, Fewest, Demand3, Demand3In, MapAnswer}
+use Rattle.maps.specs.Demand3.{walkAnswer, AnswersAsWalk, Fewest, Demand3, MapAnswer}
 use Rattle.base.specs.declared.Written.{Written}
-use Rattle.base.specs.Written.{WriteOutcome, notWritten, unwritten, written}
+use Rattle.base.specs.Written.{notWritten, written}
 use Rattle.maps.proofs.Codes.{resolve-mapped, clean-answer}
-use Rattle.maps.proofs.Ranges.{Allowed, allowed-range, InRange, in-range, start-in-half}
+use Rattle.maps.proofs.Ranges.{Allowed, allowed-range, in-range, start-in-half}
 use Rattle.maps.proofs.Mapping.{pages-long}
 
 -- page k of the pages

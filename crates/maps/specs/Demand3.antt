@@ -1,8 +1,8 @@
 -- Demand 3, for an accepted case with the world w, an allowed range and a lent buffer.
-use Prim.Native.Nat.{ℕ, zero, _+_, _*_, _/_, _%_, _-_, _≤_, _<_}
+use Prim.Native.Nat.{ℕ, zero, _+_, _*_, _/_, _-_, _≤_, _<_}
 use mathlib.Core.Path.{_≡_}
 use mathlib.Core.Bool.{true}
-use mathlib.Core.List.{List, [], _∷_}
+use mathlib.Core.List.{List}
 use lib.ListN.{length, take}
 use Rattle.base.specs.Refusal.{refusalNumber}
 use Rattle.base.specs.Written.{WriteOutcome}

@@ -1,12 +1,12 @@
 -- What the list call hands back.
-use mathlib.Core.Path.{_≡_, refl, sym, ap, _∙_}
+use mathlib.Core.Path.{_≡_, refl, sym, _∙_}
 use mathlib.Core.List.{List, [], _∷_, _++_}
 use Prim.Native.Nat.{ℕ, _%_}
 use native.Mathlib.Omega.{arith}
 use lib.ListN.{length, take}
 use lib.Seq.{sets}
 use borrow.Author.Tests.{eq-eqb, ne-eqb}
-use Rattle.base.specs.Written.{WriteOutcome, notWritten, unwritten, written}
+use Rattle.base.specs.Written.{notWritten}
 use Rattle.base.specs.declared.Written.{Written}
 use Rattle.base.specs.declared.Refusal.{Refusal}
 use Rattle.base.specs.declared.Refusal.the-variants.{LinkUnaligned}
@@ -15,14 +15,14 @@ use Rattle.sheet.specs.Sheet as sheet
 use Rattle.sheet.specs.Answer.{RowNumbers}
 use Rattle.sheet.specs.declared.Checked.{Checked}
 use Rattle.walk.specs.Walk.{World, worldOf, resolveOf}
-use Rattle.walk.specs.Rows.{worldIn, WordInside}
-use Rattle.walk.proofs.Ground.{Sound, word-inside, resolve-at, grounded}
+use Rattle.walk.specs.Rows.{worldIn}
+use Rattle.walk.proofs.Ground.{word-inside, resolve-at, grounded}
 use Rattle.walk.proofs.CaseWorld.{Opened}
 use Rattle.address.specs.Case.{checkOf}
 use Rattle.process_list.specs.declared.Followed.{Followed}
 use Rattle.process_list.specs.declared.Followed.the-variants.{Closed, Stopped}
 use Rattle.process_list.specs.List.{Nodes, nodes, fault, nodesAfter, nodesOf, listed, listOf}
-use Rattle.process_list.specs.Exact.{Exact, FoundIn, ListAnswer}
+use Rattle.process_list.specs.Exact.{FoundIn, ListAnswer}
 use Rattle.process_list.specs.Follow.{followedOf, Laid, Pass}
 use Rattle.process_list.proofs.Closing.{exact-list}
 

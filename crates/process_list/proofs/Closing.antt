@@ -1,15 +1,15 @@
 -- A list is accepted exactly if it closes, forward and back; its nodes are all different and none is the head.
 use mathlib.Core.Path.{_≡_, refl, sym, ap, _∙_}
 use mathlib.Core.Bool.{Bool, true, false}
-use mathlib.Core.List.{List, [], _∷_, _++_}
-use Prim.Native.Nat.{ℕ, zero, suc, _+_, _-_, _%_, _≤_, _<_}
+use mathlib.Core.List.{List, [], _∷_}
+use Prim.Native.Nat.{ℕ, zero, suc, _+_, _-_, _%_, _≤_}
 use native.Mathlib.Omega.{arith}
 use lib.Dec.{eqb}
 use lib.ListN.{length, take, drop}
 use lib.Seq.{sets, sets-eq, take-at}
 use borrow.Author.Tests.{eqb-true, eqb-false, eq-eqb, ne-eqb}
 use Rattle.base.specs.Notation.{if_then_else_}
-use Rattle.base.specs.Written.{WriteOutcome, unwritten, written}
+use Rattle.base.specs.Written.{written}
 use Rattle.base.specs.Refusal.{refusalNumber}
 use Rattle.base.specs.declared.Refusal.{Refusal}
 use Rattle.base.specs.declared.Refusal.the-variants.{ListBufferShort, TooManyProcesses, LinkUnaligned}
@@ -17,7 +17,7 @@ use Rattle.base.proofs.Numbers.{ten-or-more}
 use Rattle.walk.specs.Walk.{World}
 use Rattle.process_list.specs.declared.Linked.{Linked}
 use Rattle.process_list.specs.declared.Linked.the-variants.{Address, Broken}
-use Rattle.process_list.specs.List.{linkOf, nextOf, Nodes, nodes, fault, andNode, unlessHead, nodesAfter, nodesOf, listed}
+use Rattle.process_list.specs.List.{nextOf, Nodes, nodes, fault, andNode, unlessHead, nodesAfter, nodesOf, listed}
 use Rattle.process_list.specs.Exact.{Follows, Closes, Absent, AllDifferent, ClosedList, Exact}
 use Rattle.process_list.proofs.Links.{follows-next, next-follows}
 

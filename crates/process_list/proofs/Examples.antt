@@ -1,14 +1,12 @@
 -- P11 of 01, for the statement over P1 to P12; and named inputs at which a wrong list would answer otherwise.
 use mathlib.Core.Path.{refl}
 use mathlib.Core.List.{List, [], _∷_, _++_}
-use Prim.Native.Nat.{ℕ, zero, _+_, _-_, _*_, _/_, _%_}
+use Prim.Native.Nat.{ℕ, zero, _+_, _-_, _/_, _%_}
 use lib.ListN.{replicate}
 use Rattle.base.specs.Example.{Example, same, Hold}
 use Rattle.base.specs.declared.Refusal.the-variants.{BackLinkDiffers, ListBufferShort, LinkUnaligned}
 use Rattle.entry.specs.Pages.{frame}
 use Rattle.entry.specs.Entry.{levelOf, leafOf, upperOf}
-use Rattle.sheet.specs.Sheet.{Sheet}
-use Rattle.sheet.specs.declared.Run.{Run}
 use Rattle.words.specs.Words.{wordAt}
 use Rattle.walk.specs.Walk.{World, worldOf, frameIn, settleOf, descendOf, resolveOf, reachable}
 use Rattle.process_list.specs.List.{nodes, fault, linkOf, nextOf, nodesAfter, nodesOf}

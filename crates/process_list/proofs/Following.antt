@@ -9,19 +9,16 @@ use lib.ListN.{length, set, length-append}
 use lib.Seq.{sets, length-sets}
 use borrow.Author.Tests.{eq-eqb, ne-eqb}
 use Rattle.base.specs.Notation.{if_then_else_}
-use Rattle.base.specs.Written.{notWritten}
-use Rattle.base.specs.declared.Written.{Written}
 use Rattle.base.specs.declared.Refusal.{Refusal}
 use Rattle.base.specs.declared.Refusal.the-variants.{ListBufferShort, TooManyProcesses}
-use Rattle.base.proofs.Overlay.{sets-append, sets-none}
+use Rattle.base.proofs.Overlay.{sets-append}
 use Rattle.walk.specs.Walk.{World}
 use Rattle.process_list.specs.declared.Linked.{Linked}
 use Rattle.process_list.specs.declared.Linked.the-variants.{Address, Broken}
 use Rattle.process_list.specs.declared.Followed.{Followed}
 use Rattle.process_list.specs.declared.Followed.the-variants.{Closed, Stopped}
-use Rattle.process_list.specs.List.{nextOf, Nodes, nodes, fault, andNode, unlessHead, nodesAfter, listed}
-use Rattle.process_list.specs.Exact.{Follows}
-use Rattle.process_list.specs.Follow.{followedOf, afterLast, Laid, Pass}
+use Rattle.process_list.specs.List.{nextOf, Nodes, nodes, fault, andNode, unlessHead, nodesAfter}
+use Rattle.process_list.specs.Follow.{afterLast, Laid, Pass}
 use Rattle.process_list.proofs.Links.{next-follows}
 
 -- nodes that were met before

@@ -1,6 +1,6 @@
 use lib.ListN.{length-take}
 use native.Mathlib.Omega.{arith}
-use Rattle.maps.proofs.Mapping.{short-map, full-map, wrote-long}
+use Rattle.maps.proofs.Mapping.{short-map, full-map}
 use borrow.Author.Needs.{needs}
 use Rattle.maps.proofs.map_in.Statement.{statement}
 use Rattle.maps.proofs.map_in.Tie as tie

@@ -1,6 +1,6 @@
 use borrow.Author.Needs.{needs}
 use native.Mathlib.Omega.{arith}
-use Prim.Native.Nat.{_-_, _+_, _*_}
+use Prim.Native.Nat.{_-_}
 use denote.Ref.{now}
 use Rattle.walk.specs.Rows.{worldIn}
 use Rattle.walk.proofs.Cycle.{sound-rows}

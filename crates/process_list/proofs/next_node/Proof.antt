@@ -1,5 +1,4 @@
 use Rattle.process_list.proofs.Links.{forward-broken, forward-unaligned, back-broken, back-differs, back-same}
-use borrow.Author.Tests.{not-true, not-false}
 use mathlib.Core.Path.{sym, _∙_}
 use borrow.Author.Needs.{needs}
 use Rattle.process_list.proofs.next_node.Statement.{statement}
