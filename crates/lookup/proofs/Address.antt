@@ -11,7 +11,7 @@ use Rattle.base.proofs.Test.{Test, test, below, above}
 use Rattle.entry.specs.Pages.{virtualPageOf}
 use Rattle.entry.specs.declared.VirtualPage.{VirtualPage}
 use Rattle.walk.specs.Walk.{canonical}
-use Rattle.extents.specs.Extents.{carries}
+use Rattle.map_format.specs.Extents.{hasFilePage}
 use Rattle.lookup.specs.Lookup.{refusedLookup, answerAt}
 use Rattle.lookup.specs.Answer.{asAnswer, inRange, askedOf, lookedOf}
 use Rattle.lookup.specs.declared.MapRange.{MapRange}
@@ -26,10 +26,10 @@ module _ (a : ℕ) where
   canonical-high h = rw (ne-eqb (bits a 47 63) 0 h)
 
   module _ (p : Page) where
-    pub no-file : carries (p .code) ≡ false → record { number = p .code; offset = 0 } ≡ answerAt a (asAnswer p)
+    pub no-file : hasFilePage (p .code) ≡ false → record { number = p .code; offset = 0 } ≡ answerAt a (asAnswer p)
     no-file h = rw h
 
-    pub in-file : carries (p .code) ≡ true → record { number = p .code; offset = 4096 * p .file + a % 4096 } ≡ answerAt a (asAnswer p)
+    pub in-file : hasFilePage (p .code) ≡ true → record { number = p .code; offset = 4096 * p .file + a % 4096 } ≡ answerAt a (asAnswer p)
     in-file h = rw h
 
 module _ (r : MapRange) (page : VirtualPage) where

@@ -4,15 +4,15 @@ use mathlib.Core.List.{List, [], _∷_}
 use Prim.Native.Nat.{ℕ, zero, _+_}
 use Rattle.base.specs.Example.{Example, same, Hold}
 use Rattle.varint.specs.Groups.{decode, number}
-use Rattle.extents.specs.Extents.{afterOf}
-use Rattle.extents.specs.Reading.{sound, extentFrom, extentsFrom, mapFields}
+use Rattle.map_format.specs.Extents.{pageAfter}
+use Rattle.map_format.specs.Reading.{sound, extentFrom, extentsFrom, mapFields}
 use Rattle.lookup.specs.Lookup.{lookupOf}
-use Rattle.lookup.specs.declared.Looked.{Looked}
+use Rattle.lookup.specs.declared.Found.{Found}
 
 p2-bytes : List ℕ
 p2-bytes = 0x01 ∷ 0x90 ∷ 0x16 ∷ 0x03 ∷ 0x01 ∷ 0x02 ∷ 0x05 ∷ 0x16 ∷ 0x01 ∷ []
 
-answered : ℕ → ℕ → Looked
+answered : ℕ → ℕ → Found
 answered number offset = record { number = number; offset = offset }
 
 pub lookups : List Example
@@ -26,7 +26,7 @@ lookups =
     ∷ []
 
 pub lookups-hold : Hold lookups
-unfolding lookups p2-bytes answered lookupOf mapFields extentsFrom extentFrom sound afterOf number decode
+unfolding lookups p2-bytes answered lookupOf mapFields extentsFrom extentFrom sound pageAfter number decode
 lookups-hold = (refl, (refl, (refl, (refl, (refl, (refl, tt))))))
 
 answer : List ℕ → ℕ → ℕ
@@ -57,5 +57,5 @@ orders =
     ∷ []
 
 pub orders-hold : Hold orders
-unfolding orders answer lookupOf mapFields extentsFrom extentFrom sound afterOf number decode
+unfolding orders answer lookupOf mapFields extentsFrom extentFrom sound pageAfter number decode
 orders-hold = (refl, (refl, (refl, (refl, (refl, (refl, (refl, (refl, (refl, (refl, (refl, (refl, (refl, (refl, (refl, (refl, (refl, (refl, tt))))))))))))))))))

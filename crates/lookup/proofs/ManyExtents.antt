@@ -13,10 +13,10 @@ use Rattle.base.specs.declared.Refusal.{Refusal}
 use Rattle.base.specs.declared.Refusal.the-variants.{TrailingBytes}
 use Rattle.base.proofs.Test.{Test, test, below, above}
 use Rattle.varint.specs.Reader.{Read, got, bad, after, return}
-use Rattle.extents.specs.Extents.{carries, afterOf, extent, pageAt}
-use Rattle.extents.specs.Reading.{extentFrom, extentsFrom}
-use Rattle.extents.specs.declared.Extent.{Extent}
-use Rattle.lookup.specs.Answer.{Fits, asPage, noteOf, pageIn}
+use Rattle.map_format.specs.Extents.{hasFilePage, pageAfter, extent, pageAt}
+use Rattle.map_format.specs.Reading.{extentFrom, extentsFrom}
+use Rattle.map_format.specs.declared.Extent.{Extent}
+use Rattle.lookup.specs.Answer.{FieldsInLimits, asPage, noteOf, pageIn}
 use Rattle.lookup.specs.declared.Page.{Page}
 use Rattle.lookup.specs.declared.PageRead.{PageRead}
 use Rattle.lookup.specs.declared.PageRead.the-variants.{Answered, Stopped}
@@ -53,15 +53,15 @@ page-more s old done k e (bad r) = refl
 
 after-below : (left : ℕ) (e : Extent) (n : ℕ) → Held left e → n < e .pages → (b : Bool) → (if b then e .first + n else e .first) < 2 ^ 36
 after-below left e n q h true = omega (arith, q .top)
-after-below left e n q h false = q .fits .first-fits
+after-below left e n q h false = q .fits .first-limit
 
 note-below : (old : Page) (done k left : ℕ) (e : Extent) → Held left e → old .file < 2 ^ 36 → noteOf old done k e .file < 2 ^ 36
-unfolding noteOf afterOf
+unfolding noteOf pageAfter
 note-below old done k left e q h = go (test k done) (test (k - done) (e .pages))
   where
     go : Test k done → Test (k - done) (e .pages) → noteOf old done k e .file < 2 ^ 36
     go (below l) t = rw (lt-leb done k l) h
-    go (above l) (below m) = rw (le-leb done k l, lt-ltb (k - done) (e .pages) m) (after-below left e (k - done) q m (carries (e .code)))
+    go (above l) (below m) = rw (le-leb done k l, lt-ltb (k - done) (e .pages) m) (after-below left e (k - done) q m (hasFilePage (e .code)))
     go (above l) (above m) = rw (le-leb done k l, le-ltb (k - done) (e .pages) m) h
 
 -- ---- the steps of the reader
@@ -87,7 +87,7 @@ pub record Looking (s : List ℕ) (from count k at left : ℕ) (prev : Extent) (
   pub fuel : ℕ
   pub enough : left ≤ fuel
   pub part : left ≤ count
-  pub fits : Fits prev
+  pub fits : FieldsInLimits prev
   pub low : old .file < 2 ^ 36
   pub same : pageIn s k (extentsFrom count count (extent 0 0 0) s from) ≡ pageAfter s old (count - left) k (extentsFrom fuel left prev s at)
 
@@ -96,7 +96,7 @@ starts s from count k = record {
   fuel = count;
   enough = omega arith;
   part = omega arith;
-  fits = record { pages-fit = omega arith; first-fits = omega arith; bare = λ h. refl };
+  fits = record { pages-limit = omega arith; first-limit = omega arith; zero-without-file = λ h. refl };
   low = omega arith;
   same =
       page-none s (record { code = 0; file = 0 }) k (extentsFrom count count (extent 0 0 0) s from)

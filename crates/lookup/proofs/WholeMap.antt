@@ -1,4 +1,4 @@
--- The lookup in a whole map, step by step.
+-- The lookup in a whole map, afterPage by afterPage.
 use mathlib.Core.Path.{_≡_, refl, sym, ap, _∙_}
 use mathlib.Core.List.{List}
 use mathlib.Core.Bool.{Bool, true, false, not}
@@ -16,12 +16,12 @@ use Rattle.entry.specs.declared.VirtualPage.{VirtualPage}
 use Rattle.varint.specs.Reader.{Read, got, bad, Reader, after, return}
 use Rattle.varint.specs.Groups.{number}
 use Rattle.walk.specs.Walk.{canonical}
-use Rattle.extents.specs.Extents.{extent, pageAt}
-use Rattle.extents.specs.Reading.{Map, inHalf, mapFields, extentsFrom}
-use Rattle.extents.specs.declared.Extent.{Extent}
+use Rattle.map_format.specs.Extents.{extent, pageAt}
+use Rattle.map_format.specs.Reading.{Map, inHalf, mapFields, extentsFrom}
+use Rattle.map_format.specs.declared.Extent.{Extent}
 use Rattle.lookup.specs.Lookup.{refusedLookup, answerAt, lookupIn, lookupOf}
 use Rattle.lookup.specs.Answer.{rangeFields, asPage, asAnswer, pageIn, FileBelow, inRange, askedOf, lookedOf}
-use Rattle.lookup.specs.declared.Looked.{Looked}
+use Rattle.lookup.specs.declared.Found.{Found}
 use Rattle.lookup.specs.declared.MapRange.{MapRange}
 use Rattle.lookup.specs.declared.Page.{Page}
 use Rattle.lookup.specs.declared.PageRead.{PageRead}
@@ -86,7 +86,7 @@ module _ (s : List ℕ) (a : ℕ) (r : MapRange) where
           → lookedOf r a p ≡ lookupIn a (after s (λ (u : Unit {0}). return (record { start = r .start .0; count = r .count; extents = es })) (if b then got tt i else bad TrailingBytes))
       go true w =
           let same : asPage (pageAt es (askedOf r (virtualPageOf a))) ≡ p = cc in
-          rw (← same) (ap (λ (z : Looked). if not (canonical a) then refusedLookup NotCanonical else z) (page-asked a r es (inRange r (virtualPageOf a))))
+          rw (← same) (ap (λ (z : Found). if not (canonical a) then refusedLookup NotCanonical else z) (page-asked a r es (inRange r (virtualPageOf a))))
       go false w = absurd (let z : _≡_ {A = ℕ} 0 1 = cc in omega arith)
 
 pub asked-below : (r : MapRange) (page : VirtualPage) → 1 ≤ r .count → askedOf r page < r .count

@@ -12,11 +12,11 @@ use Rattle.varint.specs.Groups.{number}
 use Rattle.entry.specs.Pages.{virtualPage, virtualPageOf}
 use Rattle.entry.specs.declared.VirtualPage.{VirtualPage}
 use Rattle.walk.specs.Walk.{canonical}
-use Rattle.extents.specs.Extents.{PageAnswer, carries, afterOf, pageAt}
-use Rattle.extents.specs.Reading.{inHalf, sound}
-use Rattle.extents.specs.declared.Extent.{Extent}
+use Rattle.map_format.specs.Extents.{MappedPage, hasFilePage, pageAfter, pageAt}
+use Rattle.map_format.specs.Reading.{inHalf, sound}
+use Rattle.map_format.specs.declared.Extent.{Extent}
 use Rattle.lookup.specs.Lookup.{refusedLookup, answerAt}
-use Rattle.lookup.specs.declared.Looked.{Looked}
+use Rattle.lookup.specs.declared.Found.{Found}
 use Rattle.lookup.specs.declared.MapRange.{MapRange}
 use Rattle.lookup.specs.declared.RangeRead.{RangeRead}
 use Rattle.lookup.specs.declared.RangeRead.the-variants.{Fields, Faulty}
@@ -47,14 +47,14 @@ limitsAnswer start count next = if inHalf start count then Fields (record { star
 -- ---- one extent
 
 -- an extent whose fields are in their limits; codes without a page of a file have 0
-pub record Fits (e : Extent) : Type 0 where
-  pub pages-fit : e .pages < 2 ^ 36
-  pub first-fits : e .first < 2 ^ 36
-  pub bare : carries (e .code) ≡ false → e .first ≡ 0
+pub record FieldsInLimits (e : Extent) : Type 0 where
+  pub pages-limit : e .pages < 2 ^ 36
+  pub first-limit : e .first < 2 ^ 36
+  pub zero-without-file : hasFilePage (e .code) ≡ false → e .first ≡ 0
 
 -- the first page of the file, for codes that have one
 abbrev pub firstFrom : ℕ → Reader ℕ
-firstFrom code = if carries code then number else return 0
+firstFrom code = if hasFilePage code then number else return 0
 
 abbrev pub extentOf : Read Extent → ExtentRead
 extentOf (got e next) = Taken e next
@@ -65,15 +65,15 @@ judgedOf left prev e next = if sound left prev e then Taken e next else Wrong Ba
 
 -- ---- the answer of one page
 
-abbrev pub asPage : PageAnswer → Page
+abbrev pub asPage : MappedPage → Page
 asPage p = record { code = p .code; file = p .file }
 
-abbrev pub asAnswer : Page → PageAnswer
+abbrev pub asAnswer : Page → MappedPage
 asAnswer p = record { code = p .code; file = p .file }
 
 -- the answer so far, with the extent e after `done` pages
 unfoldable pub noteOf : Page → ℕ → ℕ → Extent → Page
-noteOf old done k e = if leb done k && ltb (k - done) (e .pages) then record { code = e .code; file = afterOf (e .code) (k - done) (e .first) } else old
+noteOf old done k e = if leb done k && ltb (k - done) (e .pages) then record { code = e .code; file = pageAfter (e .code) (k - done) (e .first) } else old
 
 -- page k of the extents that were read, if nothing stands behind them
 abbrev pub pageIn : List ℕ → ℕ → Read (List Extent) → PageRead
@@ -95,7 +95,7 @@ unfoldable pub askedOf : MapRange → VirtualPage → ℕ
 askedOf r page = if inRange r page then page .0 - r .start .0 else 0
 
 -- the answer for an address, `p` being that of the page that is asked for
-unfoldable pub lookedOf : MapRange → ℕ → Page → Looked
+unfoldable pub lookedOf : MapRange → ℕ → Page → Found
 lookedOf r a p =
     if not (canonical a) then refusedLookup NotCanonical else
     if inRange r (virtualPageOf a) then answerAt a (asAnswer p) else

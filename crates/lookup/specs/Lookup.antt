@@ -9,18 +9,18 @@ use Rattle.base.specs.declared.Refusal.{Refusal}
 use Rattle.base.specs.declared.Refusal.the-variants.{NotCanonical, OutsideMap}
 use Rattle.varint.specs.Reader.{Read, got, bad}
 use Rattle.walk.specs.Walk.{canonical}
-use Rattle.extents.specs.Extents.{PageAnswer, carries, pageAt}
-use Rattle.extents.specs.Reading.{Map, mapFields}
-use Rattle.lookup.specs.declared.Looked.{Looked}
+use Rattle.map_format.specs.Extents.{MappedPage, hasFilePage, pageAt}
+use Rattle.map_format.specs.Reading.{Map, mapFields}
+use Rattle.lookup.specs.declared.Found.{Found}
 
-abbrev pub refusedLookup : Refusal → Looked
+abbrev pub refusedLookup : Refusal → Found
 refusedLookup r = record { number = refusalNumber r; offset = 0 }
 
 -- the answer for an address of a page: for 1 and 2 the offset has the place in the page
-abbrev pub answerAt : ℕ → PageAnswer → Looked
-answerAt a p = record { number = p .code; offset = if carries (p .code) then 4096 * p .file + a % 4096 else 0 }
+abbrev pub answerAt : ℕ → MappedPage → Found
+answerAt a p = record { number = p .code; offset = if hasFilePage (p .code) then 4096 * p .file + a % 4096 else 0 }
 
-abbrev pub lookupIn : ℕ → Read Map → Looked
+abbrev pub lookupIn : ℕ → Read Map → Found
 lookupIn a (bad r) = refusedLookup r
 lookupIn a (got m at) =
     if not (canonical a) then refusedLookup NotCanonical else
@@ -28,5 +28,5 @@ lookupIn a (got m at) =
     then answerAt a (pageAt (m .extents) (bits a 12 47 - m .start)) else
     refusedLookup OutsideMap
 
-unfoldable pub lookupOf : List ℕ → ℕ → Looked
+unfoldable pub lookupOf : List ℕ → ℕ → Found
 lookupOf bytes a = lookupIn a (mapFields bytes 0)

@@ -1,20 +1,20 @@
 // The lookup call: a map's bytes and an address, to the number and the offset that the map has for it.
 use base::Refusal;
 use entry::VirtualPage;
-use extents::Extent;
+use map_format::Extent;
 use varint::Number;
 ghost use mathlib.Core.Path.{_≡_};
 ghost use Prim.Native.Nat.{_<_, _^_};
 ghost use Rattle.entry.specs.Pages.{virtualPageOf};
 ghost use Rattle.varint.specs.Answer.{numberOf};
 ghost use Rattle.walk.specs.Walk.{canonical};
-ghost use Rattle.extents.specs.Extents.{extent};
-ghost use Rattle.extents.specs.Reading.{listed, sound, extentFrom, extentsFrom};
+ghost use Rattle.map_format.specs.Extents.{extent};
+ghost use Rattle.map_format.specs.Reading.{isCode, sound, extentFrom, extentsFrom};
 ghost use Rattle.lookup.specs.Lookup.{refusedLookup, answerAt, lookupOf};
-ghost use Rattle.lookup.specs.Answer.{rangeFields, rangeOf, limitsAnswer, Fits, firstFrom, extentOf, judgedOf, asAnswer, noteOf, pageIn, FileBelow, inRange, askedOf, lookedOf};
+ghost use Rattle.lookup.specs.Answer.{rangeFields, rangeOf, limitsAnswer, FieldsInLimits, firstFrom, extentOf, judgedOf, asAnswer, noteOf, pageIn, FileBelow, inRange, askedOf, lookedOf};
 
 #[repr(C)]
-pub struct Looked {
+pub struct Found {
     pub number: u64,
     pub offset: u64,
 }
@@ -46,7 +46,7 @@ pub enum PageRead {
 }
 
 // The whole map is read before the address is judged, so that its faults come first.
-pub fn lookup(map: &[u8], address: u64) -> Looked
+pub fn lookup(map: &[u8], address: u64) -> Found
     ensures { λ r. ⌜ r ≡ lookupOf (now (map .entry)) address ⌝ }
 {
     match read_range(map) {
@@ -62,17 +62,17 @@ pub fn lookup(map: &[u8], address: u64) -> Looked
     }
 }
 
-fn refuse(fault: Refusal) -> Looked
+fn refuse(fault: Refusal) -> Found
     ensures { λ r. ⌜ r ≡ refusedLookup fault ⌝ }
 {
-    Looked {
+    Found {
         number: fault.number(),
         offset: 0,
     }
 }
 
 // 20, then 41, then the answer of the page.
-fn answer(range: MapRange, address: u64, page: Page) -> Looked
+fn answer(range: MapRange, address: u64, page: Page) -> Found
     requires { ⌜ page .file < 2 ^ 36 ⌝ }
     ensures { λ r. ⌜ r ≡ lookedOf range address page ⌝ }
 {
@@ -85,17 +85,17 @@ fn answer(range: MapRange, address: u64, page: Page) -> Looked
     place(address, page)
 }
 
-fn place(address: u64, page: Page) -> Looked
+fn place(address: u64, page: Page) -> Found
     requires { ⌜ page .file < 2 ^ 36 ⌝ }
     ensures { λ r. ⌜ r ≡ answerAt address (asAnswer page) ⌝ }
 {
-    if !extents::has_file_page(page.code) {
-        return Looked {
+    if !map_format::has_file_page(page.code) {
+        return Found {
             number: page.code,
             offset: 0,
         };
     }
-    Looked {
+    Found {
         number: page.code,
         offset: 4096 * page.file + address % 4096,
     }
@@ -216,7 +216,7 @@ fn read_page(s: &[u8], from: usize, count: u64, k: u64) -> PageRead
 
 // The answer so far, with an extent after `done` pages.
 fn note(old: Page, done: u64, k: u64, e: Extent) -> Page
-    requires { ⌜ Fits e ⌝ }
+    requires { ⌜ FieldsInLimits e ⌝ }
     ensures { λ r. ⌜ r ≡ noteOf old done k e ⌝ }
 {
     if k < done {
@@ -226,13 +226,13 @@ fn note(old: Page, done: u64, k: u64, e: Extent) -> Page
     if e.pages <= n {
         return old;
     }
-    let file = extents::page_after(e.code, n, e.first);
+    let file = map_format::page_after(e.code, n, e.first);
     Page { code: e.code, file }
 }
 
 // One extent after `prev`, with `left` pages left.
 fn read_extent(s: &[u8], at: usize, left: u64, prev: Extent) -> ExtentRead
-    requires { ⌜ Fits prev ⌝ }
+    requires { ⌜ FieldsInLimits prev ⌝ }
     ensures { λ r. ⌜ r ≡ extentOf (extentFrom left prev (now (s .entry)) at) ⌝ }
 {
     match varint::read_field(s, at) {
@@ -258,14 +258,14 @@ fn read_extent(s: &[u8], at: usize, left: u64, prev: Extent) -> ExtentRead
 fn read_first(s: &[u8], at: usize, code: u64) -> Number
     ensures { λ r. ⌜ r ≡ numberOf (firstFrom code (now (s .entry)) at) ⌝ }
 {
-    if !extents::has_file_page(code) {
+    if !map_format::has_file_page(code) {
         return Number::Value(0, at);
     }
     varint::read_field(s, at)
 }
 
 fn judged(left: u64, prev: Extent, e: Extent, next: usize) -> ExtentRead
-    requires { ⌜ Fits prev × Fits e ⌝ }
+    requires { ⌜ FieldsInLimits prev × FieldsInLimits e ⌝ }
     ensures { λ r. ⌜ r ≡ judgedOf left prev e next ⌝ }
 {
     if is_sound(left, prev, e) {
@@ -277,7 +277,7 @@ fn judged(left: u64, prev: Extent, e: Extent, next: usize) -> ExtentRead
 
 // Do the rules of an extent hold? `prev` with 0 pages stands for none.
 fn is_sound(left: u64, prev: Extent, e: Extent) -> bool
-    requires { ⌜ Fits prev × Fits e ⌝ }
+    requires { ⌜ FieldsInLimits prev × FieldsInLimits e ⌝ }
     ensures { λ r. ⌜ r ≡ sound left prev e ⌝ }
 {
     if e.pages < 1 {
@@ -295,12 +295,12 @@ fn is_sound(left: u64, prev: Extent, e: Extent) -> bool
     if prev.code != e.code {
         return true;
     }
-    extents::page_after(prev.code, prev.pages, prev.first) != e.first
+    map_format::page_after(prev.code, prev.pages, prev.first) != e.first
 }
 
 // 1, 2, 3, 21 to 29.
 fn is_listed(code: u64) -> bool
-    ensures { λ r. ⌜ r ≡ listed code ⌝ }
+    ensures { λ r. ⌜ r ≡ isCode code ⌝ }
 {
     if code < 1 {
         return false;

@@ -1,4 +1,4 @@
--- Every answer for a canonical address of a case can stand in a map: its code is listed, and its file page is below 2^36.
+-- Every answer for a canonical address of a case can stand in a map: its code is isCode, and its file page is below 2^36.
 use mathlib.Core.Path.{_≡_, refl}
 use mathlib.Core.Bool.{Bool, true, false, not, _&&_}
 use Prim.Native.Nat.{ℕ, zero, suc, _+_, _-_, _*_, _%_, _^_, _≤_, _<_}
@@ -28,8 +28,8 @@ use Rattle.walk.specs.declared.Found.the-variants.{Page, Absent}
 use Rattle.walk.specs.declared.Place.{Place}
 use Rattle.walk.specs.declared.Place.the-variants.{Image, Pagefile, Zeros, Refused}
 use Rattle.walk.proofs.Ground.{Sound}
-use Rattle.extents.specs.Answers.{Clean}
-use Rattle.extents.specs.Reading.{listed}
+use Rattle.map_format.specs.Answers.{Mappable}
+use Rattle.map_format.specs.Reading.{isCode}
 use Rattle.maps.specs.MapOf.{pageAnswer}
 
 -- ---- what an entry says by itself
@@ -38,7 +38,7 @@ abbrev Told : Rest → Type 0
 Told (InFrame f s) = Unit {0}
 Told (InPagefile p) = p .0 < 2 ^ 32
 Told ZeroPage = Unit {0}
-Told (Refuses r) = listed (refusalNumber r) ≡ true
+Told (Refuses r) = isCode (refusalNumber r) ≡ true
 
 valid-told : (e : ℕ) → Told (validOf e)
 valid-told e = go (wide e)
@@ -129,7 +129,7 @@ abbrev pub Mapped : Place → Type 0
 Mapped (Image o) = o < 2 ^ 48
 Mapped (Pagefile o) = o < 2 ^ 48
 Mapped Zeros = Unit {0}
-Mapped (Refused r) = listed (refusalNumber r) ≡ true
+Mapped (Refused r) = isCode (refusalNumber r) ≡ true
 
 module _ (w : World) (q : Sound w) (small : length (w .image) ≤ 2 ^ 48) where
   page-mapped : (a : ℕ) (f : Frame) (x : Found) → w .page f ≡ x → Mapped (inPage a x)
@@ -194,8 +194,8 @@ module _ (w : World) (q : Sound w) (small : length (w .image) ≤ 2 ^ 48) where
   resolve-mapped zero a h = body-mapped a noMore tt h
   resolve-mapped (suc n) a h = body-mapped a (deeper (resolveOf n w)) (λ t g. resolve-mapped n t g) h
 
-pub clean-answer : (p : Place) → Mapped p → Clean (pageAnswer p)
-clean-answer (Image o) m = record { code = refl; file = omega arith; bare = λ e. absurd (let z : _≡_ {A = ℕ} 0 1 = cc in omega arith) }
-clean-answer (Pagefile o) m = record { code = refl; file = omega arith; bare = λ e. absurd (let z : _≡_ {A = ℕ} 0 1 = cc in omega arith) }
-clean-answer Zeros m = record { code = refl; file = omega arith; bare = λ e. refl }
-clean-answer (Refused r) m = record { code = m; file = omega arith; bare = λ e. refl }
+pub clean-answer : (p : Place) → Mapped p → Mappable (pageAnswer p)
+clean-answer (Image o) m = record { code = refl; file = omega arith; zero-without-file = λ e. absurd (let z : _≡_ {A = ℕ} 0 1 = cc in omega arith) }
+clean-answer (Pagefile o) m = record { code = refl; file = omega arith; zero-without-file = λ e. absurd (let z : _≡_ {A = ℕ} 0 1 = cc in omega arith) }
+clean-answer Zeros m = record { code = refl; file = omega arith; zero-without-file = λ e. refl }
+clean-answer (Refused r) m = record { code = m; file = omega arith; zero-without-file = λ e. refl }

@@ -21,13 +21,13 @@ use Rattle.walk.specs.declared.Resolved.{Resolved}
 use Rattle.walk.proofs.Ground.{Sound}
 use Rattle.address.specs.Address.{placeAnswer}
 use Rattle.address.specs.declared.Answer.{Answer}
-use Rattle.extents.specs.Extents.{PageAnswer, extentsOf}
-use Rattle.extents.specs.Answers.{page, Clean}
-use Rattle.extents.specs.Layout.{extentsBytes, mapBytes}
-use Rattle.extents.specs.Build.{emptyAt, openBytes, Fed, Fit}
-use Rattle.extents.specs.declared.Builder.{Builder}
-use Rattle.extents.proofs.Feeding.{fed-none, fed-then, fed-finish, fit-empty, fit-less, fit-pushed}
-use Rattle.extents.proofs.ReadBack.{listed-small}
+use Rattle.map_format.specs.Extents.{MappedPage, extentsOf}
+use Rattle.map_format.specs.Answers.{page, Mappable}
+use Rattle.map_format.specs.Layout.{extentsBytes, mapBytes}
+use Rattle.map_format.specs.Build.{emptyAt, openBytes, PagesTaken, RoomFor}
+use Rattle.map_format.specs.declared.Builder.{Builder}
+use Rattle.map_format.proofs.Feeding.{taken-none, taken-then, taken-finish, room-empty, room-less, room-pushed}
+use Rattle.map_format.proofs.ReadBack.{code-small}
 use Rattle.maps.specs.MapOf.{pageAnswer, pagesOf, headerBytes, mapOf, allowed, mapInWorld}
 use Rattle.base.specs.declared.Written.{Written}
 use Rattle.base.specs.Written.{notWritten}
@@ -51,7 +51,7 @@ pages-next zero w a =
 pages-next (suc n) w a =
     let k : suc n + 1 ≡ suc (n + 1) = omega arith in
     let e : a + 4096 + 4096 * n ≡ a + 4096 * suc n = omega arith in
-    rw (k, ← e) (ap (λ (l : List PageAnswer). pageAnswer (resolveOf 3 w a .place) ∷ l) (pages-next n w (a + 4096)))
+    rw (k, ← e) (ap (λ (l : List MappedPage). pageAnswer (resolveOf 3 w a .place) ∷ l) (pages-next n w (a + 4096)))
 
 pub pages-long : (n : ℕ) (w : World) (a : ℕ) → length (pagesOf n w a) ≡ n
 unfolding pagesOf
@@ -61,47 +61,47 @@ pages-long (suc n) w a = ap suc (pages-long n w (a + 4096))
 -- i pages are taken
 pub record Mapping (w : World) (start count : ℕ) (old : List ℕ) (b₀ : Builder) (i : ℕ) (out : List ℕ) (b : Builder) : Type 0 where
   pub within : i ≤ count
-  pub fed : Fed old b₀ (pagesOf i w start) out b
-  pub fit : Fit b (count - i)
+  pub afterPages : PagesTaken old b₀ (pagesOf i w start) out b
+  pub fit : RoomFor b (count - i)
 
 pub mapping-none : (w : World) (start count : ℕ) {o : List ℕ} (old : List ℕ) (at : ℕ) → count ≤ 2 ^ 20 → Wrote o 0 (headerBytes start count) at old → Mapping w start count old (emptyAt at) 0 old (emptyAt at)
 unfolding pagesOf
 mapping-none w start count old at h q =
     let small : at ≤ 18 = omega (arith, q .place, header-small start count) in
-    record { within = omega arith; fed = fed-none old (emptyAt at); fit = fit-empty at (count - 0) (omega arith) (omega arith) }
+    record { within = omega arith; afterPages = taken-none old (emptyAt at); fit = room-empty at (count - 0) (omega arith) (omega arith) }
 
 module _ {w : World} {start count : ℕ} {old : List ℕ} {b₀ : Builder} {i : ℕ} {out : List ℕ} {b : Builder} (q : Mapping w start count old b₀ i out b) where
-  pub mapping-fit : i < count → Fit b 1
-  mapping-fit h = fit-less 1 (omega arith) (q .fit)
+  pub mapping-fit : i < count → RoomFor b 1
+  mapping-fit h = room-less 1 (omega arith) (q .fit)
 
-  clean-at : Sound w → length (w .image) ≤ 2 ^ 48 → allowed start count ≡ true → i < count → Clean (pageAnswer (resolveOf 3 w (start + 4096 * i) .place))
+  clean-at : Sound w → length (w .image) ≤ 2 ^ 48 → allowed start count ≡ true → i < count → Mappable (pageAnswer (resolveOf 3 w (start + 4096 * i) .place))
   clean-at sound small range h =
       let r = in-range (allowed-range start count range) (start + 4096 * i) (omega arith) (omega arith) in
       clean-answer (resolveOf 3 w (start + 4096 * i) .place) (resolve-mapped w sound small 3 (start + 4096 * i) (r .reaches))
 
   pub mapping-next : Sound w → length (w .image) ≤ 2 ^ 48 → allowed start count ≡ true → i < count → (v : Resolved) → v ≡ resolvedOf (resolveOf 3 w (start + 4096 * i)) → (a : Answer) → a ≡ placeAnswer (v .place) (v .entries)
-      → (new : List ℕ) (b′ : Builder) → Fed out b (page (a .number) (a .offset / 4096) ∷ []) new b′ → Mapping w start count old b₀ (i + 1) new b′
+      → (new : List ℕ) (b′ : Builder) → PagesTaken out b (page (a .number) (a .offset / 4096) ∷ []) new b′ → Mapping w start count old b₀ (i + 1) new b′
   mapping-next sound small range h v e a f new b′ p =
       let same-place : v .place ≡ resolveOf 3 w (start + 4096 * i) .place = ap (λ (z : Resolved). z .place) e in
       let same : page (a .number) (a .offset / 4096) ≡ pageAnswer (resolveOf 3 w (start + 4096 * i) .place) = rw (f, same-place) in
-      let p′ : Fed out b (pageAnswer (resolveOf 3 w (start + 4096 * i) .place) ∷ []) new b′ = rw same at p in
+      let p′ : PagesTaken out b (pageAnswer (resolveOf 3 w (start + 4096 * i) .place) ∷ []) new b′ = rw same at p in
       let clean = clean-at sound small range h in
       let k : count - i ≡ suc (count - (i + 1)) = omega arith in
       record {
         within = omega arith;
-        fed = rw (pages-next i w start) (fed-then (q .fed) p′);
-        fit = fit-pushed (count - (i + 1)) (omega (arith, listed-small (pageAnswer (resolveOf 3 w (start + 4096 * i) .place) .code) (clean .code))) (omega (arith, clean .file)) (rw k at (q .fit)) p′;
+        afterPages = rw (pages-next i w start) (taken-then (q .afterPages) p′);
+        fit = room-pushed (count - (i + 1)) (omega (arith, code-small (pageAnswer (resolveOf 3 w (start + 4096 * i) .place) .code) (clean .code))) (omega (arith, clean .file)) (rw k at (q .fit)) p′;
       }
 
-  pub mapping-end : count ≤ i → Fit b 0
-  mapping-end h = fit-less 0 (omega arith) (q .fit)
+  pub mapping-end : count ≤ i → RoomFor b 0
+  mapping-end h = room-less 0 (omega arith) (q .fit)
 
 pub map-written : {w : World} {start count : ℕ} {o old out new : List ℕ} {at i r : ℕ} {b : Builder} → Wrote o 0 (headerBytes start count) at old → Mapping w start count old (emptyAt at) i out b → count ≤ i
     → Wrote out (b .at) (openBytes b) r new → Wrote o 0 (mapOf w start count) r new
 unfolding mapOf mapBytes headerBytes
 map-written {w} {start} {count} {o} {old} {out} {new} {at} {i} {r} {b} p q h f =
     let all : i ≡ count = omega (arith, q .within) in
-    let extents : Wrote old at (extentsBytes (extentsOf (pagesOf count w start))) r new = rw all at (fed-finish (q .fed) f) in
+    let extents : Wrote old at (extentsBytes (extentsOf (pagesOf count w start))) r new = rw all at (taken-finish (q .afterPages) f) in
     rw (sym (regroup (encode 1) (encode (bits start 12 47)) (encode count) (extentsBytes (extentsOf (pagesOf count w start))))) (wrote-then p extents)
   where
     regroup : (x y z t : List ℕ) → (x ++ (y ++ z)) ++ t ≡ x ++ (y ++ (z ++ t))

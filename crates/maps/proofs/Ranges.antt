@@ -8,8 +8,8 @@ use borrow.Author.Tests.{lt-ltb, le-ltb, le-leb, lt-leb, leb-true, leb-false, eq
 use Rattle.base.specs.Notation.{bits, within}
 use Rattle.base.proofs.Test.{Test, test, below, above}
 use Rattle.walk.specs.Walk.{canonical, reachable}
-use Rattle.extents.specs.Reading.{inHalf}
-use Rattle.extents.proofs.Pages.{both-true}
+use Rattle.map_format.specs.Reading.{inHalf}
+use Rattle.map_format.proofs.Pages.{both-true}
 use Rattle.maps.specs.MapOf.{allowed}
 
 -- two comparisons that say the same

@@ -28,15 +28,15 @@ use Rattle.walk.proofs.SamePage.{moved, same-page}
 use Rattle.walk.proofs.CaseWorld.{Opened}
 use Rattle.address.specs.Case.{checkOf}
 use Rattle.address.specs.Address.{GroundedIn}
-use Rattle.extents.specs.Reading.{mapFields}
-use Rattle.extents.specs.Extents.{PageAnswer, carries, extentsOf, pageAt}
-use Rattle.extents.specs.Answers.{page, pageOf, Normal, SameAnswer, AllClean}
-use Rattle.extents.specs.declared.Extent.{Extent}
-use Rattle.extents.proofs.Pages.{both-true, pages-back}
-use Rattle.extents.proofs.Fewest.{fewest}
-use Rattle.extents.proofs.ReadBack.{reads-back}
+use Rattle.map_format.specs.Reading.{mapFields}
+use Rattle.map_format.specs.Extents.{MappedPage, hasFilePage, extentsOf, pageAt}
+use Rattle.map_format.specs.Answers.{page, pageOf, ZeroWithoutFile, SameAnswer, AllMappable}
+use Rattle.map_format.specs.declared.Extent.{Extent}
+use Rattle.map_format.proofs.Pages.{both-true, pages-back}
+use Rattle.map_format.proofs.Fewest.{fewest}
+use Rattle.map_format.proofs.ReadBack.{reads-back}
 use Rattle.lookup.specs.Lookup.{answerAt, lookupOf}
-use Rattle.lookup.specs.declared.Looked.{Looked}
+use Rattle.lookup.specs.declared.Found.{Found}
 use Rattle.maps.specs.MapOf.{pageAnswer, pagesOf, mapOf, allowed, mapInWorld, mapCall}
 use Rattle.maps.specs.Demand3.{walkAnswer, AnswersAsWalk, Fewest, Demand3, MapAnswer}
 use Rattle.base.specs.declared.Written.{Written}
@@ -57,8 +57,8 @@ nth-page (suc n) w a (suc k) h =
     rw (← e) (nth-page n w (a + 4096) k (omega arith))
 
 -- no refusal has a page of a file
-bare-refusal : (r : Refusal) → carries (refusalNumber r) ≡ false
-bare-refusal r =
+refusal-no-file : (r : Refusal) → hasFilePage (refusalNumber r) ≡ false
+refusal-no-file r =
     let h : 10 ≤ refusalNumber r = ten-or-more r in
     rw (ne-eqb (refusalNumber r) 1 (λ e. omega (arith, e, h)), ne-eqb (refusalNumber r) 2 (λ e. omega (arith, e, h)))
 
@@ -67,33 +67,33 @@ page-answers : (w : World) (b k : ℕ) → b % 4096 ≡ 0 → k < 4096 → (p : 
 page-answers w b k hb hk (Image o) t = ap (λ (x : ℕ). record { number = 1; offset = x }) (omega (arith, t .1))
 page-answers w b k hb hk (Pagefile o) t = ap (λ (x : ℕ). record { number = 2; offset = x }) (omega (arith, t .1))
 page-answers w b k hb hk Zeros t = refl
-page-answers w b k hb hk (Refused r) t = rw (bare-refusal r)
+page-answers w b k hb hk (Refused r) t = rw (refusal-no-file r)
 
 module _ (w : World) (sound : Sound w) (small : length (w .image) ≤ 2 ^ 48) (start count : ℕ) (range : allowed start count ≡ true) where
   q : Allowed start count
   q = allowed-range start count range
 
-  abbrev pages : List PageAnswer
+  abbrev pages : List MappedPage
   pages = pagesOf count w start
 
-  all-clean : (n a : ℕ) → ((k : ℕ) → k < n → reachable (a + 4096 * k) ≡ true) → AllClean (pagesOf n w a)
+  all-clean : (n a : ℕ) → ((k : ℕ) → k < n → reachable (a + 4096 * k) ≡ true) → AllMappable (pagesOf n w a)
   unfolding pagesOf
   all-clean zero a h = tt
   all-clean (suc n) a h =
       let e : a + 4096 * 0 ≡ a = omega arith in (
         clean-answer (resolveOf 3 w a .place) (resolve-mapped w sound small 3 a (rw e at (h 0 (omega arith)))),
-        all-clean n (a + 4096) (λ k l. rw (step k) (h (suc k) (omega arith))),
+        all-clean n (a + 4096) (λ k l. rw (afterPage k) (h (suc k) (omega arith))),
       )
     where
-      step : (k : ℕ) → a + 4096 + 4096 * k ≡ a + 4096 * suc k
-      step k = omega arith
+      afterPage : (k : ℕ) → a + 4096 + 4096 * k ≡ a + 4096 * suc k
+      afterPage k = omega arith
 
-  clean : AllClean pages
+  clean : AllMappable pages
   clean = all-clean count start (λ k l. in-range q (start + 4096 * k) (omega arith) (omega arith) .reaches)
 
-  normal : (ps : List PageAnswer) → AllClean ps → Normal ps
+  normal : (ps : List MappedPage) → AllMappable ps → ZeroWithoutFile ps
   normal [] c = tt
-  normal (p ∷ ps) c = (c .0 .bare, normal ps (c .1))
+  normal (p ∷ ps) c = (c .0 .zero-without-file, normal ps (c .1))
 
   canonical-of : (a : ℕ) → reachable a ≡ true → canonical a ≡ true
   unfolding reachable
@@ -132,14 +132,14 @@ module _ (w : World) (sound : Sound w) (small : length (w .image) ≤ 2 ^ 48) (s
 
   -- ---- no list of extents that answers so is shorter
 
-  same-answer : (x : PageAnswer) (p : Place) (a : ℕ) → a % 4096 ≡ 0 → answerAt a x ≡ record { number = numberOf p; offset = offsetOf p } → SameAnswer x (pageAnswer p)
+  same-answer : (x : MappedPage) (p : Place) (a : ℕ) → a % 4096 ≡ 0 → answerAt a x ≡ record { number = numberOf p; offset = offsetOf p } → SameAnswer x (pageAnswer p)
   same-answer x p a h e =
-      let ec : x .code ≡ numberOf p = ap (λ (z : Looked). z .number) e in
+      let ec : x .code ≡ numberOf p = ap (λ (z : Found). z .number) e in
       record { code = ec; file = λ c. go (rw (← ec) at c) }
     where
-      go : carries (x .code) ≡ true → x .file ≡ offsetOf p / 4096
+      go : hasFilePage (x .code) ≡ true → x .file ≡ offsetOf p / 4096
       go c =
-          let eo : (if carries (x .code) then 4096 * x .file + a % 4096 else 0) ≡ offsetOf p = ap (λ (z : Looked). z .offset) e in
+          let eo : (if hasFilePage (x .code) then 4096 * x .file + a % 4096 else 0) ≡ offsetOf p = ap (λ (z : Found). z .offset) e in
           let ef : 4096 * x .file + a % 4096 ≡ offsetOf p = rw c at eo in
           omega arith
 

@@ -9,27 +9,27 @@ use Rattle.base.specs.Written.{WriteOutcome}
 use Rattle.base.specs.declared.Written.{Written}
 use Rattle.base.specs.declared.Refusal.the-variants.{MapBufferShort}
 use Rattle.walk.specs.Walk.{World, resolveOf, numberOf, offsetOf}
-use Rattle.extents.specs.Extents.{pageAt, pagesIn}
-use Rattle.extents.specs.Answers.{Lengths}
-use Rattle.extents.specs.declared.Extent.{Extent}
+use Rattle.map_format.specs.Extents.{pageAt, extentPages}
+use Rattle.map_format.specs.Answers.{Lengths}
+use Rattle.map_format.specs.declared.Extent.{Extent}
 use Rattle.lookup.specs.Lookup.{answerAt, lookupOf}
-use Rattle.lookup.specs.declared.Looked.{Looked}
+use Rattle.lookup.specs.declared.Found.{Found}
 use Rattle.sheet.specs.Sheet.{Check, accepted, refused}
 use Rattle.walk.specs.Walk.{worldOf}
 use Rattle.address.specs.Case.{checkOf}
 use Rattle.address.specs.Address.{GroundedIn}
 use Rattle.varint.specs.Reader.{Read, got, bad}
-use Rattle.extents.specs.Reading.{Map, mapFields}
+use Rattle.map_format.specs.Reading.{Map, mapFields}
 use Rattle.maps.specs.MapOf.{mapOf, allowed, mapCall}
 
 -- the page walk's answer: number and offset, as the address call hands them back
-abbrev pub walkAnswer : World → ℕ → Looked
+abbrev pub walkAnswer : World → ℕ → Found
 walkAnswer w a = record { number = numberOf (resolveOf 3 w a .place); offset = offsetOf (resolveOf 3 w a .place) }
 
 -- a list of extents over the range that answers every address as the walk does: codes and first pages are any numbers
 pub record AnswersAsWalk (w : World) (start count : ℕ) (es : List Extent) : Type 0 where
   pub lengths : Lengths es
-  pub sum : pagesIn es ≡ count
+  pub sum : extentPages es ≡ count
   pub answers : (a : ℕ) → start ≤ a → a < start + 4096 * count → answerAt a (pageAt es ((a - start) / 4096)) ≡ walkAnswer w a
 
 -- no list of extents that answers so is shorter than the map that was read

@@ -12,15 +12,15 @@ use Rattle.sheet.specs.Sheet.{Check, accepted, refused}
 use Rattle.walk.specs.Walk.{World, worldOf, resolveOf, numberOf, offsetOf}
 use Rattle.walk.specs.declared.Place.{Place}
 use Rattle.address.specs.Case.{checkOf}
-use Rattle.extents.specs.Extents.{PageAnswer, extentsOf}
-use Rattle.extents.specs.Layout.{mapBytes}
+use Rattle.map_format.specs.Extents.{MappedPage, extentsOf}
+use Rattle.map_format.specs.Layout.{mapBytes}
 
 -- the number as code, for 1 and 2 the offset divided by 4,096 as file page
-abbrev pub pageAnswer : Place → PageAnswer
+abbrev pub pageAnswer : Place → MappedPage
 pageAnswer p = record { code = numberOf p; file = offsetOf p / 4096 }
 
 -- the answer for each page's first byte, in order
-unfoldable pub pagesOf : ℕ → World → ℕ → List PageAnswer
+unfoldable pub pagesOf : ℕ → World → ℕ → List MappedPage
 pagesOf zero w a = []
 pagesOf (suc n) w a = pageAnswer (resolveOf 3 w a .place) ∷ pagesOf n w (a + 4096)
 

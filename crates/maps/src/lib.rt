@@ -3,7 +3,7 @@ use base::Refusal;
 use base::Written;
 use entry::Frame;
 use entry::VirtualPage;
-use extents::Builder;
+use map_format::Builder;
 use sheet::Outcome;
 ghost use mathlib.Core.Path.{_≡_};
 ghost use mathlib.Core.Bool.{true};

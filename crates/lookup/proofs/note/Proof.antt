@@ -1,4 +1,4 @@
-use Rattle.lookup.proofs.Rules.{before-it, behind-it, in-it}
+use Rattle.lookup.proofs.Rules.{before-it, after-it, in-it}
 use borrow.Author.Needs.{needs}
 use Rattle.lookup.proofs.note.Statement.{statement}
 use Rattle.lookup.proofs.note.Tie as tie
@@ -7,7 +7,7 @@ returns : tie.Need-returns
 returns c = before-it (c .before .args .old) (c .before .args .done) (c .before .args .k) (c .before .args .e) (c .if1 .taken)
 
 returns-2 : tie.Need-returns-2
-returns-2 c = behind-it (c .before .before .before .args .old) (c .before .before .before .args .done) (c .before .before .before .args .k) (c .before .before .before .args .e) (c .before .before .if1 .left) (c .if2 .taken)
+returns-2 c = after-it (c .before .before .before .args .old) (c .before .before .before .args .done) (c .before .before .before .args .k) (c .before .before .before .args .e) (c .before .before .if1 .left) (c .if2 .taken)
 
 page-after-requires : tie.Need-page-after-requires
 page-after-requires c κs = search needs

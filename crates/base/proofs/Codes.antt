@@ -1,0 +1,70 @@
+-- The codes as two stretches of numbers, as `is_code` tests them; and a code is a small number.
+use mathlib.Core.Path.{_≡_, refl, sym, _∙_}
+use mathlib.Core.Bool.{Bool, true, false, _&&_, _||_}
+use mathlib.Core.List.{List, [], _∷_, _++_}
+use Prim.Native.Nat.{ℕ, zero, suc, _+_, _<_, _≤_}
+use native.Mathlib.Omega.{arith}
+use lib.Dec.{ltb, leb, eqb}
+use borrow.Author.Tests.{lt-ltb, le-ltb, le-leb, lt-leb, eq-eqb, ne-eqb}
+use Rattle.base.specs.Codes.{member, isCode}
+use Rattle.base.proofs.Test.{Test, test, below, above}
+
+-- n numbers one after another
+abbrev stretch : ℕ → ℕ → List ℕ
+stretch low zero = []
+stretch low (suc n) = low ∷ stretch (suc low) n
+
+member-append : (c : ℕ) (xs ys : List ℕ) → member c (xs ++ ys) ≡ (member c xs || member c ys)
+member-append c [] ys = refl
+member-append c (x ∷ xs) ys = go (eqb c x) (member-append c xs ys)
+  where
+    go : (b : Bool) → member c (xs ++ ys) ≡ (member c xs || member c ys) → (b || member c (xs ++ ys)) ≡ ((b || member c xs) || member c ys)
+    go true e = refl
+    go false e = e
+
+member-stretch : (c low n : ℕ) → member c (stretch low n) ≡ (leb low c && ltb c (low + n))
+member-stretch c low zero = go (test c low)
+  where
+    go : Test c low → false ≡ (leb low c && ltb c (low + 0))
+    go (below h) = rw (lt-leb low c h)
+    go (above h) = rw (le-leb low c h, le-ltb c (low + 0) (omega arith))
+member-stretch c low (suc n) = rw (member-stretch c (suc low) n) (go (test c low) (test low c) (test c (suc low + n)))
+  where
+    go : Test c low → Test low c → Test c (suc low + n) → (eqb c low || (leb (suc low) c && ltb c (suc low + n))) ≡ (leb low c && ltb c (low + suc n))
+    go (below h) u t = rw (ne-eqb c low (λ e. omega (arith, e)), lt-leb (suc low) c (omega arith), lt-leb low c h)
+    go (above h) (above u) t = rw (eq-eqb c low (omega arith), le-leb low c h, lt-ltb c (low + suc n) (omega arith))
+    go (above h) (below u) (below t) =
+        rw (ne-eqb c low (λ e. omega (arith, e)), le-leb (suc low) c (omega arith), lt-ltb c (suc low + n) t, le-leb low c h, lt-ltb c (low + suc n) (omega arith))
+    go (above h) (below u) (above t) =
+        rw (ne-eqb c low (λ e. omega (arith, e)), le-leb (suc low) c (omega arith), le-ltb c (suc low + n) t, le-leb low c h, le-ltb c (low + suc n) (omega arith))
+
+-- 1 to 3, 21 to 29
+two-stretches : (c : ℕ) → isCode c ≡ ((leb 1 c && ltb c 4) || (leb 21 c && ltb c 30))
+unfolding isCode
+two-stretches c = member-append c (stretch 1 3) (stretch 21 9) ∙ rw (member-stretch c 1 3, member-stretch c 21 9)
+
+module _ (c : ℕ) where
+  pub code-zero : c < 1 → false ≡ isCode c
+  code-zero h = sym (two-stretches c ∙ rw (lt-leb 1 c h, lt-leb 21 c (omega arith)))
+
+  pub code-found : 1 ≤ c → c ≤ 3 → true ≡ isCode c
+  code-found h k = sym (two-stretches c ∙ rw (le-leb 1 c h, lt-ltb c 4 (omega arith)))
+
+  pub code-between : 3 < c → c < 21 → false ≡ isCode c
+  code-between h k = sym (two-stretches c ∙ rw (le-leb 1 c (omega arith), le-ltb c 4 (omega arith), lt-leb 21 c k))
+
+  pub code-refused : 21 ≤ c → leb c 29 ≡ isCode c
+  code-refused h = sym (two-stretches c ∙ rw (le-leb 1 c (omega arith), le-ltb c 4 (omega arith), le-leb 21 c h) (go (test c 30)))
+    where
+      go : Test c 30 → ltb c 30 ≡ leb c 29
+      go (below l) = rw (lt-ltb c 30 l, le-leb c 29 (omega arith))
+      go (above l) = rw (le-ltb c 30 l, lt-leb c 29 (omega arith))
+
+  pub code-small : isCode c ≡ true → c < 30
+  code-small h = go (test c 30)
+    where
+      go : Test c 30 → c < 30
+      go (below l) = l
+      go (above l) =
+          let no : false ≡ true = sym (sym (code-refused (omega arith)) ∙ lt-leb c 29 (omega arith)) ∙ h in
+          absurd (let z : _≡_ {A = ℕ} 0 1 = cc in omega arith)

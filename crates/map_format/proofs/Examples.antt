@@ -1,0 +1,67 @@
+-- P2 of 01, for the statement over P1 to P12; and named inputs at which a wrong reader would answer otherwise.
+use mathlib.Core.Path.{refl}
+use mathlib.Core.List.{List, [], _∷_}
+use Prim.Native.Nat.{ℕ, zero}
+use Rattle.base.specs.Example.{Example, same, Hold}
+use Rattle.base.specs.Refusal.{refusalNumber}
+use Rattle.base.specs.Codes.{isCode}
+use Rattle.varint.specs.Reader.{Read, got, bad}
+use Rattle.varint.specs.Groups.{encode, decode, number}
+use Rattle.varint.specs.Edition.{editionFields}
+use Rattle.entry.specs.Pages.{virtualPage}
+use Rattle.map_format.specs.Extents.{mappedPage, pageAfter, extent, joined, extentsOf, pageAt}
+use Rattle.map_format.specs.Layout.{headerBytes, extentBytes, mapBytes}
+use Rattle.map_format.specs.Reading.{headerFields, sound, extentFrom, extentsFrom, Map, mapFields}
+use Rattle.map_format.specs.declared.Header.{Header}
+use Rattle.map_format.specs.declared.MappedPage.{MappedPage}
+
+p2-bytes : List ℕ
+p2-bytes = 0x01 ∷ 0x90 ∷ 0x16 ∷ 0x03 ∷ 0x01 ∷ 0x02 ∷ 0x05 ∷ 0x16 ∷ 0x01 ∷ []
+
+p2-pages : List MappedPage
+p2-pages = mappedPage 1 5 ∷ mappedPage 1 6 ∷ mappedPage 22 0 ∷ []
+
+p2-header : Header
+p2-header = record { start = virtualPage 0xB10; count = 3 }
+
+p2-map : Map
+p2-map = record { header = p2-header; extents = extent 1 2 5 ∷ extent 22 1 0 ∷ [] }
+
+pub maps : List Example
+maps =
+    same (mapBytes p2-header (extentsOf p2-pages)) p2-bytes
+    ∷ same (mapFields p2-bytes 0) (got p2-map 9)
+    ∷ same (pageAt (extentsOf p2-pages) 1) (mappedPage 1 6)
+    ∷ same (pageAt (extentsOf p2-pages) 2) (mappedPage 22 0)
+    ∷ []
+
+pub maps-hold : Hold maps
+unfolding maps p2-bytes p2-pages p2-header p2-map mapBytes headerBytes extentBytes joined pageAfter encode mapFields headerFields editionFields extentsFrom extentFrom isCode sound number decode
+maps-hold = (refl, (refl, (refl, (refl, tt))))
+
+-- 0 for a map that is taken
+answer-of : Read Map → ℕ
+answer-of (got m at) = 0
+answer-of (bad r) = refusalNumber r
+
+answer : List ℕ → ℕ
+answer bytes = answer-of (mapFields bytes 0)
+
+-- neighbours that belong together; a code that is not isCode, before the end; no pages, and pages past the count, when the last field has been read; a byte behind; 0 pages and edition 2 are 12
+pub orders : List Example
+orders =
+    same (answer (0x01 ∷ 0x00 ∷ 0x02 ∷ 0x01 ∷ 0x01 ∷ 0x05 ∷ 0x01 ∷ 0x01 ∷ 0x06 ∷ [])) 43
+    ∷ same (answer (0x01 ∷ 0x00 ∷ 0x02 ∷ 0x01 ∷ 0x01 ∷ 0x05 ∷ 0x01 ∷ 0x01 ∷ 0x07 ∷ [])) 0
+    ∷ same (answer (0x01 ∷ 0x00 ∷ 0x02 ∷ 0x03 ∷ 0x01 ∷ 0x03 ∷ 0x01 ∷ [])) 43
+    ∷ same (answer (0x01 ∷ 0x00 ∷ 0x02 ∷ 0x04 ∷ [])) 43
+    ∷ same (answer (0x01 ∷ 0x00 ∷ 0x02 ∷ 0x01 ∷ 0x00 ∷ [])) 10
+    ∷ same (answer (0x01 ∷ 0x00 ∷ 0x02 ∷ 0x01 ∷ 0x00 ∷ 0x05 ∷ [])) 43
+    ∷ same (answer (0x01 ∷ 0x00 ∷ 0x02 ∷ 0x01 ∷ 0x03 ∷ 0x05 ∷ [])) 43
+    ∷ same (answer (0x01 ∷ 0x00 ∷ 0x02 ∷ 0x03 ∷ 0x02 ∷ 0x00 ∷ [])) 14
+    ∷ same (answer (0x01 ∷ 0x00 ∷ 0x00 ∷ [])) 12
+    ∷ same (answer (0x02 ∷ [])) 12
+    ∷ []
+
+pub orders-hold : Hold orders
+unfolding orders answer answer-of pageAfter mapFields headerFields editionFields extentsFrom extentFrom isCode sound number decode
+orders-hold = (refl, (refl, (refl, (refl, (refl, (refl, (refl, (refl, (refl, (refl, tt))))))))))

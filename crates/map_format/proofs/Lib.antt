@@ -1,0 +1,10 @@
+pub mod Answers
+pub mod Pages
+pub mod Fewest
+pub mod Returns
+pub mod Building
+pub mod HeaderFields
+pub mod Rules
+pub mod OneExtent
+pub mod ReadBack
+pub mod Examples

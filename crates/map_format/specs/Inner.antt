@@ -1,0 +1,38 @@
+-- What the inner functions of the reader answer, and what they ask of extents.
+use mathlib.Core.Path.{_≡_}
+use mathlib.Core.Bool.{false}
+use Prim.Native.Nat.{ℕ, _^_, _<_}
+use Rattle.base.specs.Notation.{if_then_else_}
+use Rattle.base.specs.declared.Refusal.the-variants.{OutOfLimits, BadExtent}
+use Rattle.varint.specs.Reader.{Read, got, bad}
+use Rattle.entry.specs.Pages.{virtualPage}
+use Rattle.map_format.specs.Extents.{hasFilePage}
+use Rattle.map_format.specs.Reading.{inHalf, sound}
+use Rattle.map_format.specs.declared.Extent.{Extent}
+use Rattle.map_format.specs.declared.Header.{Header}
+use Rattle.map_format.specs.declared.HeaderRead.{HeaderRead}
+use Rattle.map_format.specs.declared.HeaderRead.the-variants as header
+use Rattle.map_format.specs.declared.ExtentRead.{ExtentRead}
+use Rattle.map_format.specs.declared.ExtentRead.the-variants as extent
+
+abbrev pub asHeaderRead : Read Header → HeaderRead
+asHeaderRead (got h next) = header.Fields h next
+asHeaderRead (bad r) = header.Refused r
+
+abbrev pub judgedRange : ℕ → ℕ → ℕ → HeaderRead
+judgedRange start count next =
+    if inHalf start count then header.Fields (record { start = virtualPage start; count = count }) next else
+    header.Refused OutOfLimits
+
+abbrev pub asExtentRead : Read Extent → ExtentRead
+asExtentRead (got e next) = extent.Taken e next
+asExtentRead (bad r) = extent.Refused r
+
+abbrev pub judgedExtent : ℕ → Extent → Extent → ℕ → ExtentRead
+judgedExtent left prev e next = if sound left prev e then extent.Taken e next else extent.Refused BadExtent
+
+-- fields below 2^36, the first page 0 for codes that have none
+pub record FieldsInLimits (e : Extent) : Type 0 where
+  pub pages-limit : e .pages < 2 ^ 36
+  pub first-limit : e .first < 2 ^ 36
+  pub zero-without-file : hasFilePage (e .code) ≡ false → e .first ≡ 0

@@ -1,0 +1,5 @@
+pub mod Extents
+pub mod Layout
+pub mod Reading
+pub mod Build
+pub mod Inner

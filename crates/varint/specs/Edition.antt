@@ -1,0 +1,24 @@
+-- 01 "Case sheet", "Maps": a sheet and a map open with edition 1 and two fields.
+use Prim.Native.Nat.{ℕ}
+use lib.Dec.{eqb}
+use Rattle.base.specs.Notation.{if_then_else_}
+use Rattle.base.specs.declared.Refusal.the-variants.{OutOfLimits}
+use Rattle.varint.specs.Reader.{Read, got, bad, Reader, after, _>>=_, _>>_, return, need}
+use Rattle.varint.specs.Groups.{number}
+use Rattle.varint.specs.declared.EditionFields.{EditionFields}
+use Rattle.varint.specs.declared.EditionRead.{EditionRead}
+use Rattle.varint.specs.declared.EditionRead.the-variants.{Fields, Refused}
+
+-- another edition is 12 before the next field is read
+unfoldable pub editionFields : Reader EditionFields
+editionFields = do
+  edition ← number
+  need (eqb edition 1) OutOfLimits
+  first ← number
+  second ← number
+  return (record { first = first; second = second })
+
+-- the same, as the code hands it back
+abbrev pub asEditionRead : Read EditionFields → EditionRead
+asEditionRead (got f next) = Fields f next
+asEditionRead (bad r) = Refused r
