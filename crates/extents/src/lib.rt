@@ -2,7 +2,7 @@
 ghost use mathlib.Core.Path.{_≡_};
 ghost use mathlib.Core.List.{[], _∷_};
 ghost use Prim.Native.Nat.{_<_, _^_};
-ghost use Rattle.varint.specs.Overlay.{Wrote};
+ghost use Rattle.base.specs.Overlay.{Wrote};
 ghost use Rattle.extents.specs.Extents.{carries, afterOf};
 ghost use Rattle.extents.specs.Layout.{extentBytes};
 ghost use Rattle.extents.specs.Answers.{page};

@@ -15,7 +15,7 @@ use Rattle.entry.specs.Pages.{virtualPageOf}
 use Rattle.entry.specs.declared.VirtualPage.{VirtualPage}
 use Rattle.varint.specs.Reader.{Read, got, bad, Reader, after, return}
 use Rattle.varint.specs.Groups.{number}
-use Rattle.walk.specs.Walk.{canonical}
+use Rattle.entry.specs.Addresses.{canonical}
 use Rattle.extents.specs.Extents.{extent, pageAt}
 use Rattle.extents.specs.Reading.{Map, inHalf, mapFields, extentsFrom}
 use Rattle.extents.specs.declared.Extent.{Extent}

@@ -11,7 +11,7 @@ use Rattle.varint.specs.Reader.{Read, got, bad, Reader, after, _>>=_, _>>_, ret
 use Rattle.varint.specs.Groups.{number}
 use Rattle.entry.specs.Pages.{virtualPage, virtualPageOf}
 use Rattle.entry.specs.declared.VirtualPage.{VirtualPage}
-use Rattle.walk.specs.Walk.{canonical}
+use Rattle.entry.specs.Addresses.{canonical}
 use Rattle.extents.specs.Extents.{PageAnswer, carries, afterOf, pageAt}
 use Rattle.extents.specs.Reading.{inHalf, sound}
 use Rattle.extents.specs.declared.Extent.{Extent}
