@@ -4,7 +4,8 @@ use mathlib.Core.List.{List, [], _∷_}
 use Prim.Native.Nat.{ℕ}
 use Rattle.base.specs.Example.{Example, same, Hold}
 use Rattle.sheet.specs.Sheet.{Sheet, accepted}
-use Rattle.walk.specs.Walk.{reachable, resolveOf}
+use Rattle.walk.specs.Walk.{resolveOf}
+use Rattle.entry.specs.Addresses.{reachable}
 use Rattle.address.specs.Case.{checkOf}
 use Rattle.address.specs.Address.{addressOf}
 use Rattle.address.specs.declared.Answer.{Answer}

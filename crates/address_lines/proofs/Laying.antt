@@ -7,8 +7,8 @@ use lib.ListN.{length, take, drop, getD, set, length-append, length-set}
 use lib.Seq.{sets, sets-eq, take-all, length-take-le}
 use Rattle.base.proofs.Overlay.{sets-append, sets-next}
 use Rattle.io.specs.Digits.{digits, Fewest}
-use Rattle.varint.specs.Overlay.{Wrote}
-use Rattle.varint.proofs.Overlay.{wrote-then}
+use Rattle.base.specs.Overlay.{Wrote}
+use Rattle.base.proofs.Overlay.{wrote-then}
 use Rattle.address.specs.declared.Answer.{Answer}
 use Rattle.address_lines.specs.Line.{decimalOf, fieldOf, space, newline, lineOf, LineAt}
 use Rattle.address_lines.proofs.Decimal.{fewest-digits}

@@ -5,7 +5,7 @@ ghost use mathlib.Core.Path.{_≡_};
 ghost use Prim.Native.Nat.{_+_, _≤_};
 ghost use lib.ListN.{length, take};
 ghost use lib.Seq.{sets};
-ghost use Rattle.varint.specs.Overlay.{Wrote};
+ghost use Rattle.base.specs.Overlay.{Wrote};
 ghost use Rattle.address.specs.Address.{addressOf};
 ghost use Rattle.address_lines.specs.Line.{fieldOf, lineOf, LineAt};
 

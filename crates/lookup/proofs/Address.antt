@@ -10,7 +10,7 @@ use Rattle.base.specs.declared.Refusal.the-variants.{NotCanonical, OutsideMap}
 use Rattle.base.proofs.Test.{Test, test, below, above}
 use Rattle.entry.specs.Pages.{virtualPageOf}
 use Rattle.entry.specs.declared.VirtualPage.{VirtualPage}
-use Rattle.walk.specs.Walk.{canonical}
+use Rattle.entry.specs.Addresses.{canonical}
 use Rattle.map_format.specs.Extents.{hasFilePage}
 use Rattle.lookup.specs.Lookup.{refusedLookup, answerAt}
 use Rattle.lookup.specs.Answer.{asAnswer, inRange, askedOf, lookedOf}
@@ -19,12 +19,6 @@ use Rattle.lookup.specs.declared.Page.{Page}
 use Rattle.lookup.proofs.RangeFields.{both}
 
 module _ (a : ℕ) where
-  pub canonical-low : bits a 47 63 ≡ 0 → true ≡ canonical a
-  canonical-low h = rw (eq-eqb (bits a 47 63) 0 h)
-
-  pub canonical-high : (bits a 47 63 ≡ 0 → ⊥) → eqb (bits a 47 63) 131071 ≡ canonical a
-  canonical-high h = rw (ne-eqb (bits a 47 63) 0 h)
-
   module _ (p : Page) where
     pub no-file : hasFilePage (p .code) ≡ false → record { number = p .code; offset = 0 } ≡ answerAt a (asAnswer p)
     no-file h = rw h

@@ -15,7 +15,7 @@ use Rattle.entry.specs.Pages.{virtualPageOf}
 use Rattle.entry.specs.declared.VirtualPage.{VirtualPage}
 use Rattle.varint.specs.Reader.{Read, got, bad, Reader, after, return}
 use Rattle.varint.specs.Groups.{number}
-use Rattle.walk.specs.Walk.{canonical}
+use Rattle.entry.specs.Addresses.{canonical}
 use Rattle.map_format.specs.Extents.{extent, pageAt}
 use Rattle.map_format.specs.Reading.{Map, inHalf, mapFields, extentsFrom}
 use Rattle.map_format.specs.declared.Extent.{Extent}

@@ -11,7 +11,7 @@ use Rattle.varint.specs.Reader.{Read, got, bad, Reader, after, _>>=_, _>>_, ret
 use Rattle.varint.specs.Groups.{number}
 use Rattle.entry.specs.Pages.{virtualPage, virtualPageOf}
 use Rattle.entry.specs.declared.VirtualPage.{VirtualPage}
-use Rattle.walk.specs.Walk.{canonical}
+use Rattle.entry.specs.Addresses.{canonical}
 use Rattle.map_format.specs.Extents.{MappedPage, hasFilePage, pageAfter, pageAt}
 use Rattle.map_format.specs.Reading.{inHalf, sound}
 use Rattle.map_format.specs.declared.Extent.{Extent}

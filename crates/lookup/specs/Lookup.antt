@@ -8,7 +8,7 @@ use Rattle.base.specs.Refusal.{refusalNumber}
 use Rattle.base.specs.declared.Refusal.{Refusal}
 use Rattle.base.specs.declared.Refusal.the-variants.{NotCanonical, OutsideMap}
 use Rattle.varint.specs.Reader.{Read, got, bad}
-use Rattle.walk.specs.Walk.{canonical}
+use Rattle.entry.specs.Addresses.{canonical}
 use Rattle.map_format.specs.Extents.{MappedPage, hasFilePage, pageAt}
 use Rattle.map_format.specs.Reading.{Map, mapFields}
 use Rattle.lookup.specs.declared.Found.{Found}

@@ -7,7 +7,7 @@ ghost use mathlib.Core.Path.{_≡_};
 ghost use Prim.Native.Nat.{_<_, _^_};
 ghost use Rattle.entry.specs.Pages.{virtualPageOf};
 ghost use Rattle.varint.specs.Answer.{numberOf};
-ghost use Rattle.walk.specs.Walk.{canonical};
+ghost use Rattle.entry.specs.Addresses.{canonical};
 ghost use Rattle.map_format.specs.Extents.{extent};
 ghost use Rattle.map_format.specs.Reading.{isCode, sound, extentFrom, extentsFrom};
 ghost use Rattle.lookup.specs.Lookup.{refusedLookup, answerAt, lookupOf};
@@ -76,7 +76,7 @@ fn answer(range: MapRange, address: u64, page: Page) -> Found
     requires { ⌜ page .file < 2 ^ 36 ⌝ }
     ensures { λ r. ⌜ r ≡ lookedOf range address page ⌝ }
 {
-    if !is_canonical(address) {
+    if !entry::is_canonical(address) {
         return refuse(Refusal::NotCanonical);
     }
     if !is_in_range(range, VirtualPage::of_address(address)) {
@@ -99,17 +99,6 @@ fn place(address: u64, page: Page) -> Found
         number: page.code,
         offset: 4096 * page.file + address % 4096,
     }
-}
-
-// Bits 47 to 63 equal?
-fn is_canonical(address: u64) -> bool
-    ensures { λ r. ⌜ r ≡ canonical address ⌝ }
-{
-    let high = address / 140737488355328 % 131072;
-    if high == 0 {
-        return true;
-    }
-    high == 131071
 }
 
 // The page of the range that an address asks for, 0 for an address outside it.

@@ -9,11 +9,10 @@ use lib.ListN.{length, length-append}
 use lib.Seq.{sets}
 use borrow.Author.Tests.{eq-eqb, ne-eqb}
 use Rattle.base.specs.Notation.{if_then_else_}
-use Rattle.base.proofs.Overlay.{sets-append}
+use Rattle.base.specs.Overlay.{Wrote}
+use Rattle.base.proofs.Overlay.{sets-append, wrote-then}
 use Rattle.varint.specs.Groups.{encode}
-use Rattle.varint.specs.Overlay.{Wrote}
 use Rattle.varint.proofs.Writing.{encode-length}
-use Rattle.varint.proofs.Overlay.{wrote-then}
 use Rattle.map_format.specs.Extents.{hasFilePage, pageAfter, extent, joins, joined, extentsOf}
 use Rattle.map_format.specs.Layout.{extentBytes, extentsBytes}
 use Rattle.map_format.specs.Build.{emptyAt, openExtent, openBytes, followsOf, afterPage, writtenFor, afterPages, writtenForAll, PagesTaken, RoomFor}

@@ -8,6 +8,7 @@ use lib.Dec.{leb, ltb}
 use borrow.Author.Tests.{leb-true}
 use Rattle.base.specs.Notation.{if_then_else_, within}
 use Rattle.base.specs.declared.Refusal.{Refusal}
+use Rattle.base.proofs.Test.{both-true}
 use Rattle.base.specs.declared.Refusal.the-variants.{OutOfLimits}
 use Rattle.entry.specs.Pages.{virtualPage}
 use Rattle.varint.specs.Reader.{Read, got, bad, after, return}
@@ -19,7 +20,6 @@ use Rattle.map_format.specs.Inner.{asHeaderRead, judgedRange}
 use Rattle.map_format.specs.declared.Header.{Header}
 use Rattle.map_format.specs.declared.HeaderRead.{HeaderRead}
 use Rattle.map_format.specs.declared.HeaderRead.the-variants.{Fields, Refused}
-use Rattle.map_format.proofs.Pages.{both-true}
 
 judging : (s : List ℕ) (h : Header) (next : ℕ) (b : Bool)
     → (if b then Fields h next else Refused OutOfLimits) ≡ asHeaderRead (after s (λ (x : Unit {0}). return h) (if b then got tt next else bad OutOfLimits))

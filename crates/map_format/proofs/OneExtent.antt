@@ -9,6 +9,7 @@ use borrow.Author.Tests.{leb-true, ltb-true}
 use Rattle.base.specs.Notation.{if_then_else_}
 use Rattle.base.specs.Codes.{isCode}
 use Rattle.base.specs.declared.Refusal.{Refusal}
+use Rattle.base.proofs.Test.{both-true}
 use Rattle.base.specs.declared.Refusal.the-variants.{BadExtent}
 use Rattle.varint.specs.Reader.{Read, got, bad, after, return}
 use Rattle.varint.specs.Groups.{number}
@@ -23,7 +24,6 @@ use Rattle.map_format.specs.declared.Extent.{Extent}
 use Rattle.map_format.specs.Inner.{FieldsInLimits, asExtentRead, judgedExtent}
 use Rattle.map_format.specs.declared.ExtentRead.{ExtentRead}
 use Rattle.map_format.specs.declared.ExtentRead.the-variants.{Taken, Refused}
-use Rattle.map_format.proofs.Pages.{both-true}
 use Rattle.map_format.proofs.Rules.{KeepsRules}
 
 judging : (s : List ℕ) (e : Extent) (next : ℕ) (b : Bool)

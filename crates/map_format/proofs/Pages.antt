@@ -10,7 +10,7 @@ use lib.ListN.{length, getD}
 use lib.Seq.{getD-append-add}
 use borrow.Author.Tests.{eq-eqb, eqb-true, lt-ltb, le-ltb}
 use Rattle.base.specs.Notation.{if_then_else_}
-use Rattle.base.proofs.Test.{Test, test, below, above}
+use Rattle.base.proofs.Test.{Test, test, below, above, both-true}
 use Rattle.map_format.specs.Extents.{mappedPage, hasFilePage, pageAfter, extent, joins, joined, extentsOf, pageAt, extentPages}
 use Rattle.map_format.specs.declared.Extent.{Extent}
 use Rattle.map_format.specs.declared.MappedPage.{MappedPage}
@@ -39,10 +39,6 @@ after-suc c k f =
     rw e (after-add c 1 k f)
 
 -- ---- joining
-pub both-true : (a b : Bool) → (a && b) ≡ true → (a ≡ true) × (b ≡ true)
-both-true true b e = (refl, e)
-both-true false b e = absurd (let z : _≡_ {A = ℕ} 0 1 = cc in omega arith)
-
 pub joins-true : (e : Extent) (c f : ℕ) → joins e c f ≡ true → (e .code ≡ c) × (pageAfter (e .code) (e .pages) (e .first) ≡ f)
 joins-true e c f h =
     let t = both-true (eqb (e .code) c) (eqb (pageAfter (e .code) (e .pages) (e .first)) f) h in

@@ -9,10 +9,10 @@ use lib.ListN.{length}
 use lib.Seq.{sets}
 use borrow.Author.Tests.{eq-eqb, ne-eqb}
 use Rattle.base.specs.Notation.{if_then_else_}
+use Rattle.base.specs.Overlay.{Wrote}
+use Rattle.base.proofs.Overlay.{wrote-none, wrote-then}
 use Rattle.varint.specs.Groups.{encode}
-use Rattle.varint.specs.Overlay.{Wrote}
 use Rattle.varint.proofs.Writing.{encode-length}
-use Rattle.varint.proofs.Overlay.{wrote-none, wrote-then}
 use Rattle.map_format.specs.Extents.{hasFilePage, pageAfter}
 use Rattle.map_format.specs.Layout.{headerBytes, extentBytes}
 use Rattle.map_format.specs.Build.{openExtent, openBytes, followsOf, afterPage, writtenFor, afterPages, writtenForAll, PagesTaken}

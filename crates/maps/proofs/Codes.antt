@@ -22,7 +22,8 @@ use Rattle.entry.specs.declared.Upper.the-variants.{Table, Ends, UpperNeedsRegi
 use Rattle.entry.specs.declared.Leaf.{Leaf}
 use Rattle.entry.specs.declared.Leaf.the-variants.{Settled, Prototype, NeedsRegion}
 use Rattle.words.specs.Words.{wordAt}
-use Rattle.walk.specs.Walk.{World, Walked, Trail, Next, noMore, deeper, inPage, frameIn, settleOf, wordIn, entryOffset, entryOf, upperStep, descendOf, halt, leafStep, protoStep, follow, judgedAt, bodyOf, resolveOf, reachable, canonical, stop}
+use Rattle.walk.specs.Walk.{World, Walked, Trail, Next, noMore, deeper, inPage, frameIn, settleOf, wordIn, entryOffset, entryOf, upperStep, descendOf, halt, leafStep, protoStep, follow, judgedAt, bodyOf, resolveOf, stop}
+use Rattle.entry.specs.Addresses.{reachable, canonical}
 use Rattle.walk.specs.declared.Found.{Found}
 use Rattle.walk.specs.declared.Found.the-variants.{Page, Absent}
 use Rattle.walk.specs.declared.Place.{Place}

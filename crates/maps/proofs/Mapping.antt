@@ -12,9 +12,9 @@ use Rattle.base.specs.declared.Refusal.the-variants.{MapBufferShort}
 use Rattle.base.proofs.Overlay.{sets-none}
 use Rattle.entry.specs.Pages.{virtualPageOf}
 use Rattle.varint.specs.Groups.{encode}
-use Rattle.varint.specs.Overlay.{Wrote}
+use Rattle.base.specs.Overlay.{Wrote}
 use Rattle.varint.proofs.Writing.{encode-length}
-use Rattle.varint.proofs.Overlay.{wrote-then}
+use Rattle.base.proofs.Overlay.{wrote-then}
 use Rattle.walk.specs.Walk.{World, resolveOf}
 use Rattle.walk.specs.Rows.{resolvedOf}
 use Rattle.walk.specs.declared.Resolved.{Resolved}

@@ -19,7 +19,8 @@ use Rattle.sheet.specs.Sheet as sheet
 use Rattle.sheet.specs.Answer.{RowNumbers}
 use Rattle.sheet.specs.declared.Checked.{Checked}
 use Rattle.sheet.proofs.AcceptedCase.{AcceptedCase, accepted-laws, pages-below}
-use Rattle.walk.specs.Walk.{World, worldOf, resolveOf, reachable, canonical, numberOf, offsetOf}
+use Rattle.walk.specs.Walk.{World, worldOf, resolveOf, numberOf, offsetOf}
+use Rattle.entry.specs.Addresses.{reachable, canonical}
 use Rattle.walk.specs.Rows.{worldIn}
 use Rattle.walk.specs.declared.Place.{Place}
 use Rattle.walk.specs.declared.Place.the-variants.{Image, Pagefile, Zeros, Refused}

@@ -9,7 +9,7 @@ ghost use mathlib.Core.Path.{_≡_};
 ghost use mathlib.Core.Bool.{true};
 ghost use Prim.Native.Nat.{_≤_, _^_};
 ghost use lib.ListN.{length};
-ghost use Rattle.varint.specs.Overlay.{Wrote};
+ghost use Rattle.base.specs.Overlay.{Wrote};
 ghost use Rattle.walk.specs.Rows.{worldIn};
 ghost use Rattle.maps.specs.MapOf.{headerBytes, mapOf, allowed, mapInWorld};
 ghost use Rattle.maps.specs.Demand3.{MapAnswer};

@@ -8,7 +8,8 @@ use Rattle.base.specs.declared.Refusal.the-variants.{BackLinkDiffers, ListBuffe
 use Rattle.entry.specs.Pages.{frame}
 use Rattle.entry.specs.Entry.{levelOf, leafOf, upperOf}
 use Rattle.words.specs.Words.{wordAt}
-use Rattle.walk.specs.Walk.{World, worldOf, frameIn, settleOf, descendOf, resolveOf, reachable}
+use Rattle.walk.specs.Walk.{World, worldOf, frameIn, settleOf, descendOf, resolveOf}
+use Rattle.entry.specs.Addresses.{reachable}
 use Rattle.process_list.specs.List.{nodes, fault, linkOf, nextOf, nodesAfter, nodesOf}
 
 word : ℕ → List ℕ

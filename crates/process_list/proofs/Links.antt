@@ -10,7 +10,8 @@ use Rattle.base.specs.Notation.{if_then_else_}
 use Rattle.base.specs.declared.Refusal.{Refusal}
 use Rattle.base.specs.declared.Refusal.the-variants.{NotCanonical, LinkUnaligned, BackLinkDiffers}
 use Rattle.entry.specs.declared.Frame.{Frame}
-use Rattle.walk.specs.Walk.{World, resolveOf, reachable}
+use Rattle.walk.specs.Walk.{World, resolveOf}
+use Rattle.entry.specs.Addresses.{reachable}
 use Rattle.walk.specs.Rows.{worldIn, resolvedOf, WordInside}
 use Rattle.walk.specs.declared.Place.{Place}
 use Rattle.walk.specs.declared.Resolved.{Resolved}

@@ -13,7 +13,8 @@ use Rattle.base.specs.declared.Refusal.{Refusal}
 use Rattle.base.specs.declared.Refusal.the-variants.{NotCanonical}
 use Rattle.base.proofs.Overlay.{sets-append}
 use Rattle.entry.specs.declared.Frame.{Frame}
-use Rattle.walk.specs.Walk.{World, resolveOf, reachable}
+use Rattle.walk.specs.Walk.{World, resolveOf}
+use Rattle.entry.specs.Addresses.{reachable}
 use Rattle.walk.specs.Rows.{worldIn, nextOf, resolvedOf}
 use Rattle.walk.specs.declared.Place.{Place}
 use Rattle.walk.specs.declared.Place.the-variants.{Image, Pagefile, Zeros, Refused}

@@ -10,7 +10,7 @@ ghost use mathlib.Core.Path.{_≡_};
 ghost use Prim.Native.Nat.{_-_, _/_, _%_, _^_, _≤_, _<_};
 ghost use lib.ListN.{length};
 ghost use Rattle.entry.specs.Entry.{levelOf};
-ghost use Rattle.walk.specs.Walk.{frameIn, inPage, pagefilePlace, wordOf, reachable, resolveOf};
+ghost use Rattle.walk.specs.Walk.{frameIn, inPage, pagefilePlace, wordOf, resolveOf};
 ghost use Rattle.walk.specs.Rows.{pageInRows, guarded, worldIn, entryRead, Descends, noTable, endedAfter, Settles, WordInside, refusedPlace, prototypeStep, resolvedOf};
 
 // The image page of a frame.
@@ -212,17 +212,6 @@ fn settle(rows: &[u64], image: &[u8], pagefile: &[u8], address: u64, rest: Rest)
     }
 }
 
-// Is an address canonical: bits 47 to 63 equal?
-fn is_canonical(address: u64) -> bool
-    ensures { λ r. ⌜ r ≡ reachable address ⌝ }
-{
-    let high = address / 140737488355328;
-    if high == 0 {
-        return true;
-    }
-    high == 131071
-}
-
 // The word at a place, 0 in a page of zeros.
 fn word_in(image: &[u8], pagefile: &[u8], place: Place) -> u64
     requires { ⌜ WordInside (now image) (now pagefile) place ⌝ }
@@ -259,7 +248,7 @@ fn resolve(
     requires { ⌜ left ≤ 3 ⌝ }
     ensures { λ r. ⌜ r ≡ resolvedOf (resolveOf left (worldIn (now (rows .entry)) directory (now (image .entry)) (now (pagefile .entry))) address) ⌝ }
 {
-    if !is_canonical(address) {
+    if !entry::is_canonical(address) {
         return Resolved {
             place: Place::Refused(Refusal::NotCanonical),
             entries: 0,
