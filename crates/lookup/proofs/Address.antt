@@ -7,58 +7,64 @@ use lib.Dec.{eqb, leb, ltb}
 use borrow.Author.Tests.{lt-ltb, le-ltb, le-leb, lt-leb, eq-eqb, ne-eqb, leb-true}
 use Rattle.base.specs.Notation.{if_then_else_, bits}
 use Rattle.base.specs.declared.Refusal.the-variants.{NotCanonical, OutsideMap}
-use Rattle.base.proofs.Test.{Test, test, below, above}
+use Rattle.base.proofs.Test.{Test, test, below, above, both-true}
 use Rattle.entry.specs.Pages.{virtualPageOf}
 use Rattle.entry.specs.declared.VirtualPage.{VirtualPage}
 use Rattle.entry.specs.Addresses.{canonical}
 use Rattle.map_format.specs.Extents.{hasFilePage}
-use Rattle.lookup.specs.Lookup.{refusedLookup, answerAt}
-use Rattle.lookup.specs.Answer.{asAnswer, inRange, askedOf, lookedOf}
-use Rattle.lookup.specs.declared.MapRange.{MapRange}
-use Rattle.lookup.specs.declared.Page.{Page}
-use Rattle.lookup.proofs.RangeFields.{both}
+use Rattle.map_format.specs.declared.Header.{Header}
+use Rattle.map_format.specs.declared.MappedPage.{MappedPage}
+use Rattle.lookup.specs.Call.{refusedLookup, answerAt, inRange}
+use Rattle.lookup.specs.Inner.{askedOf, foundFor}
 
-module _ (a : ℕ) where
-  module _ (p : Page) where
-    pub no-file : hasFilePage (p .code) ≡ false → record { number = p .code; offset = 0 } ≡ answerAt a (asAnswer p)
-    no-file h = rw h
+module _ (a : ℕ) (p : MappedPage) where
+  pub no-file : hasFilePage (p .code) ≡ false → record { number = p .code; offset = 0 } ≡ answerAt a p
+  no-file h = rw h
 
-    pub in-file : hasFilePage (p .code) ≡ true → record { number = p .code; offset = 4096 * p .file + a % 4096 } ≡ answerAt a (asAnswer p)
-    in-file h = rw h
+  pub in-file : hasFilePage (p .code) ≡ true → record { number = p .code; offset = 4096 * p .file + a % 4096 } ≡ answerAt a p
+  in-file h = rw h
 
-module _ (r : MapRange) (page : VirtualPage) where
-  pub page-below : page .0 < r .start .0 → false ≡ inRange r page
-  page-below h = rw (lt-leb (r .start .0) (page .0) h)
+module _ (header : Header) (page : VirtualPage) where
+  pub page-below : page .0 < header .start .0 → false ≡ inRange header page
+  page-below h = rw (lt-leb (header .start .0) (page .0) h)
 
-  pub page-above : r .start .0 ≤ page .0 → ltb (page .0 - r .start .0) (r .count) ≡ inRange r page
-  page-above h = go (test (page .0 - r .start .0) (r .count))
+  pub page-above : header .start .0 ≤ page .0 → ltb (page .0 - header .start .0) (header .count) ≡ inRange header page
+  page-above h = go (test (page .0 - header .start .0) (header .count))
     where
-      go : Test (page .0 - r .start .0) (r .count) → ltb (page .0 - r .start .0) (r .count) ≡ inRange r page
-      go (below l) = rw (le-leb (r .start .0) (page .0) h, lt-ltb (page .0 - r .start .0) (r .count) l, lt-ltb (page .0) (r .start .0 + r .count) (omega arith))
-      go (above l) = rw (le-leb (r .start .0) (page .0) h, le-ltb (page .0 - r .start .0) (r .count) l, le-ltb (page .0) (r .start .0 + r .count) (omega arith))
+      go : Test (page .0 - header .start .0) (header .count) → ltb (page .0 - header .start .0) (header .count) ≡ inRange header page
+      go (below l) = rw (
+        le-leb (header .start .0) (page .0) h,
+        lt-ltb (page .0 - header .start .0) (header .count) l,
+        lt-ltb (page .0) (header .start .0 + header .count) (omega arith),
+      )
+      go (above l) = rw (
+        le-leb (header .start .0) (page .0) h,
+        le-ltb (page .0 - header .start .0) (header .count) l,
+        le-ltb (page .0) (header .start .0 + header .count) (omega arith),
+      )
 
-  pub asked-outside : inRange r page ≡ false → 0 ≡ askedOf r page
+  pub asked-outside : inRange header page ≡ false → 0 ≡ askedOf header page
   unfolding askedOf
   asked-outside h = rw h
 
-  module _ (h : inRange r page ≡ true) where
-    pub asked-inside : page .0 - r .start .0 ≡ askedOf r page
+  module _ (h : inRange header page ≡ true) where
+    pub asked-inside : page .0 - header .start .0 ≡ askedOf header page
     unfolding askedOf
     asked-inside = rw h
 
-    pub start-first : r .start .0 ≤ page .0
-    start-first = leb-true (r .start .0) (page .0) (both (leb (r .start .0) (page .0)) _ h .0)
+    pub start-first : header .start .0 ≤ page .0
+    start-first = leb-true (header .start .0) (page .0) (both-true (leb (header .start .0) (page .0)) _ h .0)
 
-module _ (r : MapRange) (a : ℕ) (p : Page) where
-  pub not-canonical : canonical a ≡ false → refusedLookup NotCanonical ≡ lookedOf r a p
-  unfolding lookedOf
+module _ (header : Header) (a : ℕ) (p : MappedPage) where
+  pub not-canonical : canonical a ≡ false → refusedLookup NotCanonical ≡ foundFor header a p
+  unfolding foundFor
   not-canonical h = rw h
 
   module _ (h : canonical a ≡ true) where
-    pub outside-range : inRange r (virtualPageOf a) ≡ false → refusedLookup OutsideMap ≡ lookedOf r a p
-    unfolding lookedOf
+    pub outside-range : inRange header (virtualPageOf a) ≡ false → refusedLookup OutsideMap ≡ foundFor header a p
+    unfolding foundFor
     outside-range l = rw (h, l)
 
-    pub inside-range : inRange r (virtualPageOf a) ≡ true → answerAt a (asAnswer p) ≡ lookedOf r a p
-    unfolding lookedOf
+    pub inside-range : inRange header (virtualPageOf a) ≡ true → answerAt a p ≡ foundFor header a p
+    unfolding foundFor
     inside-range l = rw (h, l)

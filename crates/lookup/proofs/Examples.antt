@@ -3,10 +3,12 @@ use mathlib.Core.Path.{refl}
 use mathlib.Core.List.{List, [], _∷_}
 use Prim.Native.Nat.{ℕ, zero, _+_}
 use Rattle.base.specs.Example.{Example, same, Hold}
+use Rattle.base.specs.Codes.{isCode}
 use Rattle.varint.specs.Groups.{decode, number}
+use Rattle.varint.specs.Edition.{editionFields}
 use Rattle.map_format.specs.Extents.{pageAfter}
-use Rattle.map_format.specs.Reading.{sound, extentFrom, extentsFrom, mapFields}
-use Rattle.lookup.specs.Lookup.{lookupOf}
+use Rattle.map_format.specs.Reading.{headerFields, sound, extentFrom, extentsFrom, mapFields}
+use Rattle.lookup.specs.Call.{lookupOf}
 use Rattle.lookup.specs.declared.Found.{Found}
 
 p2-bytes : List ℕ
@@ -26,7 +28,7 @@ lookups =
     ∷ []
 
 pub lookups-hold : Hold lookups
-unfolding lookups p2-bytes answered lookupOf mapFields extentsFrom extentFrom sound pageAfter number decode
+unfolding lookups p2-bytes answered lookupOf mapFields headerFields editionFields extentsFrom extentFrom isCode sound pageAfter number decode
 lookups-hold = (refl, (refl, (refl, (refl, (refl, (refl, tt))))))
 
 answer : List ℕ → ℕ → ℕ
@@ -57,5 +59,5 @@ orders =
     ∷ []
 
 pub orders-hold : Hold orders
-unfolding orders answer lookupOf mapFields extentsFrom extentFrom sound pageAfter number decode
+unfolding orders answer lookupOf mapFields headerFields editionFields extentsFrom extentFrom isCode sound pageAfter number decode
 orders-hold = (refl, (refl, (refl, (refl, (refl, (refl, (refl, (refl, (refl, (refl, (refl, (refl, (refl, (refl, (refl, (refl, (refl, (refl, tt))))))))))))))))))

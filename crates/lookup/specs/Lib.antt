@@ -1,2 +1,2 @@
-pub mod Lookup
-pub mod Answer
+pub mod Call
+pub mod Inner

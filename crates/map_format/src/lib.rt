@@ -22,6 +22,7 @@ const MOST_PAGES: u64 = 0x10_0000;
 
 // Virtual pages from 2^35 on are those of the upper half; there are 2^36.
 const UPPER_HALF: u64 = 0x8_0000_0000;
+
 const VIRTUAL_PAGES: u64 = 0x10_0000_0000;
 
 // 01 "Maps": first page plus length is at most 2^36.

@@ -1,3 +1,4 @@
+-- 0 outside the range; inside it the start comes first, so that the subtraction holds.
 use mathlib.Core.Path.{sym, _∙_}
 use native.Mathlib.Omega.{arith}
 use borrow.Author.Needs.{needs}
@@ -22,10 +23,15 @@ number-requires-2 : tie.Need-number-requires-2
 number-requires-2 c κs = search needs
 
 sub-result : tie.Need-sub-result
-sub-result c = omega (arith, c .number2 .ensures, c .before .number .ensures, start-first (c .before .before .before .before .before .args .range) (c .before .before .before .before .of-address .result) (sym (c .before .before .before .is-in-range .ensures) ∙ not-false _ (c .before .before .if1 .left)))
+sub-result c =
+    let inside = sym (c .before .before .before .is-in-range .ensures) ∙ not-false _ (c .before .before .if1 .left) in
+    let first = start-first (c .before .before .before .before .before .args .header) (c .before .before .before .before .of-address .result) inside in
+    omega (arith, c .number2 .ensures, c .before .number .ensures, first)
 
 returns-2 : tie.Need-returns-2
-returns-2 c = rw (c .number2 .ensures, c .before .number .ensures, ← c .before .before .before .before .of-address .ensures) (asked-inside _ _ (sym (c .before .before .before .is-in-range .ensures) ∙ not-false _ (c .before .before .if1 .left)))
+returns-2 c =
+    let inside = sym (c .before .before .before .is-in-range .ensures) ∙ not-false _ (c .before .before .if1 .left) in
+    rw (c .number2 .ensures, c .before .number .ensures, ← c .before .before .before .before .of-address .ensures) (asked-inside _ _ inside)
 
 pub asked-page-spec : {M : Type 1} → statement M
 asked-page-spec =

@@ -1,8 +1,9 @@
+-- The loop keeps `Looking`: what is left to read, with the answer so far, gives the answer of the whole.
 use borrow.Author.Needs.{needs}
 use native.Mathlib.Omega.{arith}
 use denote.Ref.{now}
-use Rattle.lookup.proofs.OneExtent.{extent-held, taken-got, wrong-bad}
-use Rattle.lookup.proofs.ManyExtents.{Looking, starts, stopped, again, trailing, answered}
+use Rattle.map_format.proofs.OneExtent.{extent-keeps, extent-got, extent-refused}
+use Rattle.lookup.proofs.ManyExtents.{Looking, starts, refused, again, trailing, answered}
 use Rattle.lookup.proofs.read_page.Statement.{statement}
 use Rattle.lookup.proofs.read_page.Tie as tie
 
@@ -13,16 +14,18 @@ abbrev μ-loop : tie.MeasureT-loop
 μ-loop s from count k at₀ left₀ prev₀ page₀ at left prev page = left
 
 loop-holds : tie.Need-loop-holds Inv-loop μ-loop
-loop-holds c = starts (now (c .before .args .s)) (c .before .args .from) (c .before .args .count) (c .before .args .k)
+loop-holds c = let given = c .before .args in starts (now (given .s)) (given .from) (given .count) (given .k)
 
 read-extent-requires : tie.Need-read-extent-requires Inv-loop μ-loop
-read-extent-requires c κs = c .before .loop .inv .fits
+read-extent-requires c κs = c .before .loop .inv .limits
 
-enum-known-fault : tie.Need-enum-known-fault Inv-loop μ-loop
-enum-known-fault c = search needs
+enum-known-refusal : tie.Need-enum-known-refusal Inv-loop μ-loop
+enum-known-refusal c = search needs
 
 returns : tie.Need-returns Inv-loop μ-loop
-returns c = (stopped (c .before .before .before .before .before .loop .inv) (c .before .before .before .before .loop-test .taken) _ (wrong-bad _ _ _ (c .before .before .before .read-extent .ensures) (c .before .fault .given .1)), tt)
+returns c =
+    let no-extent = extent-refused _ _ _ (c .before .before .before .read-extent .ensures) (c .before .refusal .given .1) in
+    (refused (c .before .before .before .before .before .loop .inv) (c .before .before .before .before .loop-test .taken) _ no-extent, tt)
 
 enum-known-e : tie.Need-enum-known-e Inv-loop μ-loop
 enum-known-e c = search needs
@@ -31,16 +34,19 @@ sub-note : tie.Need-sub-note Inv-loop μ-loop
 sub-note c = c .before .before .before .before .before .loop .inv .part
 
 note-requires : tie.Need-note-requires Inv-loop μ-loop
-note-requires c κs = extent-held _ _ _ _ _ _ (taken-got _ _ _ _ (c .before .before .before .read-extent .ensures) (c .before .e .given .1)) .fits
+note-requires c κs = extent-keeps _ _ _ _ _ _ (extent-got _ _ _ _ (c .before .before .before .read-extent .ensures) (c .before .e .given .1)) .rules .fields
 
 sub-left : tie.Need-sub-left Inv-loop μ-loop
-sub-left c = extent-held _ _ _ _ _ _ (taken-got _ _ _ _ (c .before .before .before .before .before .read-extent .ensures) (c .before .before .before .e .given .1)) .most
+sub-left c = extent-keeps _ _ _ _ _ _ (extent-got _ _ _ _ (c .before .before .before .before .before .read-extent .ensures) (c .before .before .before .e .given .1)) .most
 
 loop-less : tie.Need-loop-less Inv-loop μ-loop
-loop-less c = omega (arith, extent-held _ _ _ _ _ _ (taken-got _ _ _ _ (c .before .before .before .before .before .read-extent .ensures) (c .before .before .before .e .given .1)) .some)
+loop-less c = omega (arith, extent-keeps _ _ _ _ _ _ (extent-got _ _ _ _ (c .before .before .before .before .before .read-extent .ensures) (c .before .before .before .e .given .1)) .rules .some)
 
 loop-again : tie.Need-loop-again Inv-loop μ-loop
-loop-again c = rw (c .before .note .ensures) (again (c .before .before .before .before .before .before .before .loop .inv) (c .before .before .before .before .before .before .loop-test .taken) _ _ (taken-got _ _ _ _ (c .before .before .before .before .before .read-extent .ensures) (c .before .before .before .e .given .1)))
+loop-again c =
+    let at-extent = c .before .before .before .before .before in
+    let taken = extent-got _ _ _ _ (at-extent .read-extent .ensures) (c .before .before .before .e .given .1) in
+    rw (c .before .note .ensures) (again (at-extent .before .before .loop .inv) (at-extent .before .loop-test .taken) _ _ taken)
 
 returns-2 : tie.Need-returns-2 Inv-loop μ-loop
 returns-2 c = (trailing (c .before .before .loop .inv) (c .before .loop-test .left) (c .if1 .taken), tt)
@@ -56,7 +62,7 @@ read-page-spec =
     μ-loop
     loop-holds
     read-extent-requires
-    enum-known-fault
+    enum-known-refusal
     returns
     enum-known-e
     sub-note

@@ -1,3 +1,4 @@
+-- The number of the refusal, with offset 0.
 use borrow.Author.Needs.{needs}
 use Rattle.lookup.proofs.refuse.Statement.{statement}
 use Rattle.lookup.proofs.refuse.Tie as tie

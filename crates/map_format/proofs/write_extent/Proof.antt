@@ -36,7 +36,7 @@ returns c =
     let at-pages = at-test .before .before .before .before in
     let at-code = at-pages .before .before .before .before in
     wrote-page (at-code .before .before .before .args .e) _ (at-test .before .has-file-page .ensures) (at-code .write-number .ensures) (at-pages .write-number2 .ensures)
-      (at-test .if1 .taken) (c .before .before .write-number3 .ensures)
+    (at-test .if1 .taken) (c .before .before .write-number3 .ensures)
 
 same-length-2 : tie.Need-same-length-2
 same-length-2 c = search needs

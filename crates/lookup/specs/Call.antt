@@ -1,16 +1,20 @@
--- 01 "Maps", lookup: the map's own faults, then 20, then 41.
+-- 01 "Maps", lookup: what the call hands back. The map's own faults, then 20, then 41.
 use Prim.Native.Nat.{ℕ, zero, _+_, _-_, _*_, _%_}
-use mathlib.Core.Bool.{Bool, true, false, not, _&&_}
+use mathlib.Core.Bool.{Bool, not, _&&_}
 use mathlib.Core.List.{List}
 use lib.Dec.{ltb, leb}
-use Rattle.base.specs.Notation.{if_then_else_, bits}
+use Rattle.base.specs.Notation.{if_then_else_}
 use Rattle.base.specs.Refusal.{refusalNumber}
 use Rattle.base.specs.declared.Refusal.{Refusal}
 use Rattle.base.specs.declared.Refusal.the-variants.{NotCanonical, OutsideMap}
 use Rattle.varint.specs.Reader.{Read, got, bad}
 use Rattle.entry.specs.Addresses.{canonical}
-use Rattle.map_format.specs.Extents.{MappedPage, hasFilePage, pageAt}
+use Rattle.entry.specs.Pages.{virtualPageOf}
+use Rattle.entry.specs.declared.VirtualPage.{VirtualPage}
+use Rattle.map_format.specs.Extents.{hasFilePage, pageAt}
 use Rattle.map_format.specs.Reading.{Map, mapFields}
+use Rattle.map_format.specs.declared.Header.{Header}
+use Rattle.map_format.specs.declared.MappedPage.{MappedPage}
 use Rattle.lookup.specs.declared.Found.{Found}
 
 abbrev pub refusedLookup : Refusal → Found
@@ -20,12 +24,16 @@ refusedLookup r = record { number = refusalNumber r; offset = 0 }
 abbrev pub answerAt : ℕ → MappedPage → Found
 answerAt a p = record { number = p .code; offset = if hasFilePage (p .code) then 4096 * p .file + a % 4096 else 0 }
 
+-- is a page in the map's range?
+abbrev pub inRange : Header → VirtualPage → Bool
+inRange h page = leb (h .start .0) (page .0) && ltb (page .0) (h .start .0 + h .count)
+
 abbrev pub lookupIn : ℕ → Read Map → Found
 lookupIn a (bad r) = refusedLookup r
 lookupIn a (got m at) =
     if not (canonical a) then refusedLookup NotCanonical else
-    if leb (m .start) (bits a 12 47) && ltb (bits a 12 47) (m .start + m .count)
-    then answerAt a (pageAt (m .extents) (bits a 12 47 - m .start)) else
+    if inRange (m .header) (virtualPageOf a)
+    then answerAt a (pageAt (m .extents) (virtualPageOf a .0 - m .header .start .0)) else
     refusedLookup OutsideMap
 
 unfoldable pub lookupOf : List ℕ → ℕ → Found
