@@ -1,0 +1,115 @@
+-- What an entry says by itself can stand in a map: its refusal has a code, its pagefile page is below 2^32, its prototype address is canonical.
+use mathlib.Core.Path.{_≡_, refl}
+use mathlib.Core.Bool.{Bool, true, false, not, _&&_}
+use Prim.Native.Nat.{ℕ, _+_, _-_, _^_, _<_}
+use native.Mathlib.Omega.{arith}
+use lib.Dec.{eqb, ltb}
+use borrow.Author.Tests.{lt-ltb, eqb-true, eqb-false}
+use Rattle.base.specs.Notation.{if_then_else_, bits, bit}
+use Rattle.base.specs.Refusal.{refusalNumber}
+use Rattle.base.specs.Codes.{isCode}
+use Rattle.base.specs.declared.Refusal.the-variants.{FrameTooWide, FileBacked, OtherPagefile, UpperEntryNotValid}
+use Rattle.entry.specs.Pages.{pagefilePage}
+use Rattle.entry.specs.Addresses.{canonical, reachable}
+use Rattle.entry.specs.Entry.{valid, wide, frameOf, largeOf, upperOf, validOf, transition, transitionOf, prototype, extended, softwareOf, leafOf, prototypeOf}
+use Rattle.entry.specs.declared.PageSize.{PageSize}
+use Rattle.entry.specs.declared.PageSize.the-variants.{Page4K, Page2M, Page1G}
+use Rattle.entry.specs.declared.Level.{Level}
+use Rattle.entry.specs.declared.Rest.{Rest}
+use Rattle.entry.specs.declared.Rest.the-variants.{InFrame, InPagefile, ZeroPage, Refuses}
+use Rattle.entry.specs.declared.Upper.{Upper}
+use Rattle.entry.specs.declared.Upper.the-variants.{Table, Ends, UpperNeedsRegion}
+use Rattle.entry.specs.declared.Leaf.{Leaf}
+use Rattle.entry.specs.declared.Leaf.the-variants.{Settled, Prototype, NeedsRegion}
+
+abbrev pub RestCoded : Rest → Type 0
+RestCoded (InFrame f s) = Unit {0}
+RestCoded (InPagefile p) = p .0 < 2 ^ 32
+RestCoded ZeroPage = Unit {0}
+RestCoded (Refuses r) = isCode (refusalNumber r) ≡ true
+
+valid-coded : (e : ℕ) → RestCoded (validOf e)
+unfolding isCode
+valid-coded e = go (wide e)
+  where
+    go : (b : Bool) → RestCoded (if b then Refuses FrameTooWide else InFrame (frameOf e) Page4K)
+    go true = refl
+    go false = tt
+
+software-coded : (e : ℕ) → RestCoded (softwareOf e)
+unfolding isCode
+software-coded e = go (eqb (bits e 32 63) 0) (not (eqb (bits e 1 4) 0))
+  where
+    small : bits e 32 63 < 2 ^ 32
+    small = omega arith
+
+    go : (a b : Bool) → RestCoded (if a then ZeroPage else if b then Refuses OtherPagefile else InPagefile (pagefilePage (bits e 32 63)))
+    go true b = tt
+    go false true = refl
+    go false false = small
+
+-- the entry from step 4
+pub prototype-coded : (e : ℕ) → RestCoded (prototypeOf e)
+unfolding prototypeOf isCode
+prototype-coded e = go (valid e) (prototype e) (transition e)
+  where
+    go : (a b c : Bool) → RestCoded (if a then validOf e else if b then Refuses FileBacked else if c then transitionOf e else softwareOf e)
+    go true b c = valid-coded e
+    go false true c = refl
+    go false false true = tt
+    go false false false = software-coded e
+
+abbrev pub UpperCoded : Upper → Type 0
+UpperCoded (Table f) = Unit {0}
+UpperCoded (Ends r) = RestCoded r
+UpperCoded UpperNeedsRegion = Unit {0}
+
+pub upper-coded : (l : Level) (e : ℕ) → UpperCoded (upperOf l e)
+unfolding upperOf isCode
+upper-coded l e = go (not (valid e)) (l .region) (wide e) (bit e 7) (l .large)
+  where
+    go : (a b c d : Bool) (s : PageSize)
+        → UpperCoded (if a then (if b then UpperNeedsRegion else Ends (Refuses UpperEntryNotValid)) else if c then Ends (Refuses FrameTooWide) else if d then largeOf s (frameOf e) else Table (frameOf e))
+    go true true c d s = tt
+    go true false c d s = refl
+    go false b true d s = refl
+    go false b false false s = tt
+    go false b false true Page4K = tt
+    go false b false true Page2M = tt
+    go false b false true Page1G = tt
+
+-- an extended address is canonical
+extended-reaches : (x : ℕ) → x < 2 ^ 48 → reachable (extended x) ≡ true
+unfolding reachable
+extended-reaches x h = go (bit x 47) refl
+  where
+    high : bit x 47 ≡ true → bits (x + (2 ^ 64 - 2 ^ 48)) 47 63 ≡ 2 ^ 17 - 1
+    high e = let t : bits x 47 47 ≡ 1 = eqb-true (bits x 47 47) 1 e in omega arith
+
+    low : bit x 47 ≡ false → bits x 47 63 ≡ 0
+    low e = let t : bits x 47 47 ≡ 1 → ⊥ = eqb-false (bits x 47 47) 1 e in omega (arith, t)
+
+    go : (b : Bool) → bit x 47 ≡ b → (ltb (if b then x + (2 ^ 64 - 2 ^ 48) else x) (2 ^ 64) && canonical (if b then x + (2 ^ 64 - 2 ^ 48) else x)) ≡ true
+    go true e = rw (lt-ltb (x + (2 ^ 64 - 2 ^ 48)) (2 ^ 64) (omega arith), high e)
+    go false e = rw (lt-ltb x (2 ^ 64) (omega arith), low e)
+
+abbrev pub LeafCoded : Leaf → Type 0
+LeafCoded (Settled r) = RestCoded r
+LeafCoded (Prototype t) = reachable t ≡ true
+LeafCoded NeedsRegion = Unit {0}
+
+pub leaf-coded : (e : ℕ) → LeafCoded (leafOf e)
+unfolding leafOf
+leaf-coded e = go (valid e) (transition e) (prototype e && eqb (bits e 16 63) 0xFFFFFFFF0000) (prototype e) (eqb e 0)
+  where
+    small : bits e 16 63 < 2 ^ 48
+    small = omega arith
+
+    go : (a b c d f : Bool)
+        → LeafCoded (if a then Settled (validOf e) else if b then Settled (transitionOf e) else if c then NeedsRegion else if d then Prototype (extended (bits e 16 63)) else if f then NeedsRegion else Settled (softwareOf e))
+    go true b c d f = valid-coded e
+    go false true c d f = tt
+    go false false true d f = tt
+    go false false false true f = extended-reaches (bits e 16 63) small
+    go false false false false true = tt
+    go false false false false false = software-coded e

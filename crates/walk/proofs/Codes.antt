@@ -1,0 +1,125 @@
+-- The number of every answer for a reachable address is a code, and a file offset is below 2^48, so that the answer can stand in a map.
+use mathlib.Core.Path.{_≡_, refl}
+use mathlib.Core.Bool.{Bool, true, false}
+use Prim.Native.Nat.{ℕ, zero, suc, _+_, _*_, _%_, _^_, _≤_, _<_}
+use native.Mathlib.Omega.{arith}
+use lib.Dec.{eqb, leb}
+use lib.ListN.{length}
+use Rattle.base.specs.Notation.{if_then_else_}
+use Rattle.base.specs.Codes.{isCode}
+use Rattle.base.specs.Refusal.{refusalNumber}
+use Rattle.base.specs.declared.Refusal.the-variants.{PrototypeUnaligned, PastPagefile}
+use Rattle.entry.specs.Addresses.{reachable}
+use Rattle.entry.specs.Entry.{levelOf, upperOf, leafOf, prototypeOf}
+use Rattle.entry.specs.declared.Frame.{Frame}
+use Rattle.entry.specs.declared.Level.{Level}
+use Rattle.entry.specs.declared.Rest.{Rest}
+use Rattle.entry.specs.declared.Rest.the-variants.{InFrame, InPagefile, ZeroPage, Refuses}
+use Rattle.entry.specs.declared.Upper.{Upper}
+use Rattle.entry.specs.declared.Upper.the-variants.{Table, Ends, UpperNeedsRegion}
+use Rattle.entry.specs.declared.Leaf.{Leaf}
+use Rattle.entry.specs.declared.Leaf.the-variants.{Settled, Prototype, NeedsRegion}
+use Rattle.entry.proofs.Codes.{RestCoded, UpperCoded, LeafCoded, prototype-coded, upper-coded, leaf-coded}
+use Rattle.words.specs.Words.{wordAt}
+use Rattle.walk.specs.Walk.{
+  World,
+  Walked,
+  Trail,
+  Next,
+  noMore,
+  deeper,
+  inPage,
+  frameIn,
+  settleOf,
+  wordIn,
+  entryOffset,
+  entryOf,
+  upperStep,
+  descendOf,
+  halt,
+  leafStep,
+  protoStep,
+  follow,
+  judgedAt,
+  bodyOf,
+  resolveOf,
+  stop,
+}
+use Rattle.walk.specs.declared.Found.{Found}
+use Rattle.walk.specs.declared.Found.the-variants.{Page, Absent}
+use Rattle.walk.specs.declared.Place.{Place}
+use Rattle.walk.specs.declared.Place.the-variants.{Image, Pagefile, Zeros, Refused}
+use Rattle.walk.proofs.Ground.{Sound}
+
+abbrev pub PlaceCoded : Place → Type 0
+PlaceCoded (Image o) = o < 2 ^ 48
+PlaceCoded (Pagefile o) = o < 2 ^ 48
+PlaceCoded Zeros = Unit {0}
+PlaceCoded (Refused r) = isCode (refusalNumber r) ≡ true
+
+module _ (w : World) (q : Sound w) (small : length (w .image) ≤ 2 ^ 48) where
+  page-coded : (a : ℕ) (f : Frame) (x : Found) → w .page f ≡ x → PlaceCoded (inPage a x)
+  unfolding isCode
+  page-coded a f Absent e = refl
+  page-coded a f (Page p) e = let h : p * 4096 + 4096 ≤ length (w .image) = q .whole f p e in omega arith
+
+  settle-coded : (a : ℕ) (r : Rest) → RestCoded r → PlaceCoded (settleOf w a r)
+  unfolding settleOf isCode
+  settle-coded a (InFrame f s) t = page-coded a (frameIn f s a) (w .page (frameIn f s a)) refl
+  settle-coded a (InPagefile p) t = go (leb (p .0 * 4096 + 4096) (length (w .pagefile)))
+    where
+      go : (b : Bool) → PlaceCoded (if b then Pagefile (p .0 * 4096 + a % 4096) else Refused PastPagefile)
+      go true = omega arith
+      go false = refl
+  settle-coded a ZeroPage t = tt
+  settle-coded a (Refuses r) t = t
+
+  entry-coded : (l : Level) (a : ℕ) (next : ℕ → Trail) (x : Found) → ((e : ℕ) → LeafCoded (next e .leaf)) → LeafCoded (entryOf w l a next x .leaf)
+  unfolding isCode
+  entry-coded l a next Absent h = refl
+  entry-coded l a next (Page p) h = h (wordAt (w .image) (entryOffset l p a))
+
+  step-coded : (u : Upper) (next : Frame → Trail) → UpperCoded u → ((f : Frame) → LeafCoded (next f .leaf)) → LeafCoded (upperStep next u .leaf)
+  step-coded (Table f) next t h = h f
+  step-coded (Ends r) next t h = t
+  step-coded UpperNeedsRegion next t h = tt
+
+  descend-coded : (n : ℕ) (t : Frame) (a : ℕ) → LeafCoded (descendOf n w t a .leaf)
+  unfolding descendOf
+  descend-coded zero t a = entry-coded (levelOf 0) a (λ e. halt (leafOf e)) (w .page t) (λ e. leaf-coded e)
+  descend-coded (suc n) t a =
+      entry-coded (levelOf (suc n)) a (λ e. upperStep (λ f. descendOf n w f a) (upperOf (levelOf (suc n)) e)) (w .page t)
+      (λ e. step-coded (upperOf (levelOf (suc n)) e) (λ f. descendOf n w f a) (upper-coded (levelOf (suc n)) e) (λ f. descend-coded n f a))
+
+  abbrev NextCoded : Next → Type 0
+  NextCoded noMore = Unit {0}
+  NextCoded (deeper next) = (t : ℕ) → reachable t ≡ true → PlaceCoded (next t .place)
+
+  judged-coded : (a : ℕ) (v : Walked) (p : Place) → v .place ≡ p → PlaceCoded p → PlaceCoded (judgedAt w a v p .place)
+  judged-coded a v (Refused r) e m = rw e m
+  judged-coded a v (Image o) e m = settle-coded a (prototypeOf (wordIn w (Image o))) (prototype-coded (wordIn w (Image o)))
+  judged-coded a v (Pagefile o) e m = settle-coded a (prototypeOf (wordIn w (Pagefile o))) (prototype-coded (wordIn w (Pagefile o)))
+  judged-coded a v Zeros e m = settle-coded a (prototypeOf 0) (prototype-coded 0)
+
+  proto-coded : (a t : ℕ) (next : Next) → NextCoded next → reachable t ≡ true → PlaceCoded (protoStep w next a t .place)
+  unfolding isCode
+  proto-coded a t next s h = go (eqb (t % 8) 0) next s
+    where
+      go : (c : Bool) (next : Next) → NextCoded next → PlaceCoded ((if c then follow w a t next else stop (Refused PrototypeUnaligned)) .place)
+      go true noMore s = refl
+      go true (deeper next) s = judged-coded a (next t) (next t .place) refl (s t h)
+      go false next s = refl
+
+  leaf-step-coded : (a : ℕ) (next : Next) (l : Leaf) → NextCoded next → LeafCoded l → PlaceCoded (leafStep w next a l .place)
+  unfolding isCode
+  leaf-step-coded a next (Settled r) s t = settle-coded a r t
+  leaf-step-coded a next (Prototype x) s t = proto-coded a x next s t
+  leaf-step-coded a next NeedsRegion s t = refl
+
+  body-coded : (a : ℕ) (next : Next) → NextCoded next → reachable a ≡ true → PlaceCoded (bodyOf w next a .place)
+  body-coded a next s h = rw h (leaf-step-coded a next (descendOf 3 w (w .directory) a .leaf) s (descend-coded 3 (w .directory) a))
+
+  pub resolve-coded : (n a : ℕ) → reachable a ≡ true → PlaceCoded (resolveOf n w a .place)
+  unfolding resolveOf
+  resolve-coded zero a h = body-coded a noMore tt h
+  resolve-coded (suc n) a h = body-coded a (deeper (resolveOf n w)) (λ t g. resolve-coded n t g) h
