@@ -4,7 +4,7 @@ use Rattle.base.specs.Example.{Example, same, Hold}
 use Rattle.varint.proofs.Examples.{numbers, numbers-hold}
 use Rattle.sheet.proofs.Examples.{sheets, sheets-hold}
 use Rattle.walk.proofs.Examples.{addresses, addresses-hold}
-use Rattle.extents.proofs.Examples.{maps, maps-hold}
+use Rattle.map_format.proofs.Examples.{maps, maps-hold}
 use Rattle.process_list.proofs.Examples.{lists, lists-hold}
 
 hold-append : (xs ys : List Example) → Hold xs → Hold ys → Hold (xs ++ ys)

@@ -2,13 +2,13 @@
 use address::Answer;
 use address::Part;
 use base::Written;
-use lookup::Looked;
+use lookup::Found;
 use reading::BytesRead;
 ghost use mathlib.Core.Path.{_≡_};
 ghost use Rattle.address.specs.Address.{AddressAnswer};
 ghost use Rattle.address.specs.Page.{PageAnswer, partBytes, pageBytes};
 ghost use Rattle.reading.specs.Read.{ReadAnswer};
-ghost use Rattle.lookup.specs.Lookup.{lookupOf};
+ghost use Rattle.lookup.specs.Call.{lookupOf};
 ghost use Rattle.maps.specs.Demand3.{MapAnswer};
 ghost use Rattle.processor_block.specs.Block.{BlockAnswer};
 ghost use Rattle.process_list.specs.Exact.{ListAnswer};
@@ -58,7 +58,7 @@ pub extern "C" fn glint_map(
 }
 
 #[no_mangle]
-pub extern "C" fn glint_lookup(map: &[u8], address: u64) -> Looked
+pub extern "C" fn glint_lookup(map: &[u8], address: u64) -> Found
     ensures { λ r. ⌜ r ≡ lookupOf (now (map .entry)) address ⌝ }
 {
     lookup::lookup(map, address)

@@ -14,10 +14,11 @@ use Rattle.base.proofs.Overlay.{sets-append, wrote-then}
 use Rattle.varint.specs.Groups.{encode}
 use Rattle.varint.proofs.Writing.{encode-length}
 use Rattle.map_format.specs.Extents.{hasFilePage, pageAfter, extent, joins, joined, extentsOf}
-use Rattle.map_format.specs.Layout.{extentBytes, extentsBytes}
+use Rattle.map_format.specs.Layout.{headerBytes, extentBytes, extentsBytes}
 use Rattle.map_format.specs.Build.{emptyAt, openExtent, openBytes, followsOf, afterPage, writtenFor, afterPages, writtenForAll, PagesTaken, RoomFor}
 use Rattle.map_format.specs.declared.Builder.{Builder}
 use Rattle.map_format.specs.declared.Extent.{Extent}
+use Rattle.map_format.specs.declared.Header.{Header}
 use Rattle.map_format.specs.declared.MappedPage.{MappedPage}
 use Rattle.map_format.proofs.Pages.{joins-true, joined-joined}
 
@@ -122,6 +123,10 @@ taken-finish {o} {o′} {o″} {at} {r} {b} {ps} p w =
     rw (whole-extents ps at) at (wrote-then first last)
 
 -- ---- room in the builder's numbers
+pub header-length : (h : Header) → length (headerBytes h) ≤ 18
+unfolding headerBytes
+header-length h = rw (length-append, length-append) (omega (arith, encode-length 1, encode-length (h .start .0), encode-length (h .count)))
+
 extent-length : (e : Extent) → length (extentBytes e) ≤ 18
 unfolding extentBytes
 extent-length e = go (hasFilePage (e .code))

@@ -18,7 +18,7 @@ ghost use Rattle.map_format.specs.Inner.{asHeaderRead, judgedRange, asEx
 const EDITION: u64 = 1;
 
 // 01 "Maps": a range has 1 to 2^20 pages.
-const MOST_PAGES: u64 = 0x10_0000;
+pub const MOST_PAGES: u64 = 0x10_0000;
 
 // Virtual pages from 2^35 on are those of the upper half; there are 2^36.
 const UPPER_HALF: u64 = 0x8_0000_0000;

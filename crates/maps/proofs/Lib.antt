@@ -1,4 +1,3 @@
-pub mod Codes
 pub mod Ranges
 pub mod Mapping
 pub mod Whole

@@ -8,7 +8,9 @@ use lib.ListN.{length, length-append}
 use lib.Seq.{sets, length-sets}
 use borrow.Author.Tests.{lt-ltb, le-ltb}
 use Rattle.base.specs.Notation.{bits}
+use Rattle.base.specs.Codes.{isCode}
 use Rattle.base.specs.declared.Refusal.the-variants.{MapBufferShort}
+use Rattle.base.proofs.Codes.{code-small}
 use Rattle.base.proofs.Overlay.{sets-none}
 use Rattle.entry.specs.Pages.{virtualPageOf}
 use Rattle.varint.specs.Groups.{encode}
@@ -18,32 +20,34 @@ use Rattle.base.proofs.Overlay.{wrote-then}
 use Rattle.walk.specs.Walk.{World, resolveOf}
 use Rattle.walk.specs.Rows.{resolvedOf}
 use Rattle.walk.specs.declared.Resolved.{Resolved}
+use Rattle.walk.specs.declared.Place.{Place}
+use Rattle.walk.specs.declared.Place.the-variants.{Image, Pagefile, Zeros, Refused}
 use Rattle.walk.proofs.Ground.{Sound}
+use Rattle.walk.proofs.Codes.{PlaceCoded, resolve-coded}
 use Rattle.address.specs.Address.{placeAnswer}
 use Rattle.address.specs.declared.Answer.{Answer}
-use Rattle.map_format.specs.Extents.{MappedPage, extentsOf}
-use Rattle.map_format.specs.Answers.{page, Mappable}
-use Rattle.map_format.specs.Layout.{extentsBytes, mapBytes}
+use Rattle.map_format.specs.Extents.{mappedPage, extentsOf}
+use Rattle.map_format.specs.Layout.{headerBytes, extentsBytes, mapBytes}
 use Rattle.map_format.specs.Build.{emptyAt, openBytes, PagesTaken, RoomFor}
 use Rattle.map_format.specs.declared.Builder.{Builder}
-use Rattle.map_format.proofs.Feeding.{taken-none, taken-then, taken-finish, room-empty, room-less, room-pushed}
-use Rattle.map_format.proofs.ReadBack.{code-small}
-use Rattle.maps.specs.MapOf.{pageAnswer, pagesOf, headerBytes, mapOf, allowed, mapInWorld}
+use Rattle.map_format.specs.declared.MappedPage.{MappedPage}
+use Rattle.map_format.proofs.Answers.{Mappable}
+use Rattle.map_format.proofs.Building.{taken-none, taken-then, taken-finish, header-length, room-empty, room-less, room-pushed}
+use Rattle.maps.specs.MapOf.{mappedPageOf, pagesOf, headerOf, mapOf, allowed, mapInWorld}
 use Rattle.base.specs.declared.Written.{Written}
 use Rattle.base.specs.Written.{notWritten}
-use Rattle.maps.proofs.Codes.{resolve-mapped, clean-answer}
 use Rattle.maps.proofs.Ranges.{allowed-range, in-range}
 
-pub header-written : (start count : ℕ) {o o₁ o₂ o₃ : List ℕ} {a b r : ℕ} → Wrote o 0 (encode 1) a o₁ → Wrote o₁ a (encode (virtualPageOf start .0)) b o₂ → Wrote o₂ b (encode count) r o₃ → Wrote o 0 (headerBytes start count) r o₃
-unfolding headerBytes
-header-written start count p q s = wrote-then p (wrote-then q s)
-
-header-small : (start count : ℕ) → length (headerBytes start count) ≤ 18
-unfolding headerBytes
-header-small start count = rw (length-append, length-append) (omega (arith, encode-length 1, encode-length (bits start 12 47), encode-length count))
+-- an answer whose number is a code can stand in a map
+pub mappable : (p : Place) → PlaceCoded p → Mappable (mappedPageOf p)
+unfolding isCode
+mappable (Image o) m = record { code = refl; file = omega arith; zero-without-file = λ e. absurd (let z : _≡_ {A = ℕ} 0 1 = cc in omega arith) }
+mappable (Pagefile o) m = record { code = refl; file = omega arith; zero-without-file = λ e. absurd (let z : _≡_ {A = ℕ} 0 1 = cc in omega arith) }
+mappable Zeros m = record { code = refl; file = omega arith; zero-without-file = λ e. refl }
+mappable (Refused r) m = record { code = m; file = omega arith; zero-without-file = λ e. refl }
 
 -- one page more
-pages-next : (n : ℕ) (w : World) (a : ℕ) → pagesOf (n + 1) w a ≡ pagesOf n w a ++ (pageAnswer (resolveOf 3 w (a + 4096 * n) .place) ∷ [])
+pages-next : (n : ℕ) (w : World) (a : ℕ) → pagesOf (n + 1) w a ≡ pagesOf n w a ++ (mappedPageOf (resolveOf 3 w (a + 4096 * n) .place) ∷ [])
 unfolding pagesOf
 pages-next zero w a =
     let e : a + 4096 * 0 ≡ a = omega arith in
@@ -51,7 +55,7 @@ pages-next zero w a =
 pages-next (suc n) w a =
     let k : suc n + 1 ≡ suc (n + 1) = omega arith in
     let e : a + 4096 + 4096 * n ≡ a + 4096 * suc n = omega arith in
-    rw (k, ← e) (ap (λ (l : List MappedPage). pageAnswer (resolveOf 3 w a .place) ∷ l) (pages-next n w (a + 4096)))
+    rw (k, ← e) (ap (λ (l : List MappedPage). mappedPageOf (resolveOf 3 w a .place) ∷ l) (pages-next n w (a + 4096)))
 
 pub pages-long : (n : ℕ) (w : World) (a : ℕ) → length (pagesOf n w a) ≡ n
 unfolding pagesOf
@@ -61,51 +65,48 @@ pages-long (suc n) w a = ap suc (pages-long n w (a + 4096))
 -- i pages are taken
 pub record Mapping (w : World) (start count : ℕ) (old : List ℕ) (b₀ : Builder) (i : ℕ) (out : List ℕ) (b : Builder) : Type 0 where
   pub within : i ≤ count
-  pub afterPages : PagesTaken old b₀ (pagesOf i w start) out b
-  pub fit : RoomFor b (count - i)
+  pub taken : PagesTaken old b₀ (pagesOf i w start) out b
+  pub room : RoomFor b (count - i)
 
-pub mapping-none : (w : World) (start count : ℕ) {o : List ℕ} (old : List ℕ) (at : ℕ) → count ≤ 2 ^ 20 → Wrote o 0 (headerBytes start count) at old → Mapping w start count old (emptyAt at) 0 old (emptyAt at)
+pub mapping-none : (w : World) (start count : ℕ) {o : List ℕ} (old : List ℕ) (at : ℕ) → count ≤ 2 ^ 20 → Wrote o 0 (headerBytes (headerOf start count)) at old → Mapping w start count old (emptyAt at) 0 old (emptyAt at)
 unfolding pagesOf
 mapping-none w start count old at h q =
-    let small : at ≤ 18 = omega (arith, q .place, header-small start count) in
-    record { within = omega arith; afterPages = taken-none old (emptyAt at); fit = room-empty at (count - 0) (omega arith) (omega arith) }
+    let small : at ≤ 18 = omega (arith, q .place, header-length (headerOf start count)) in
+    record { within = omega arith; taken = taken-none old (emptyAt at); room = room-empty at (count - 0) (omega arith) (omega arith) }
 
 module _ {w : World} {start count : ℕ} {old : List ℕ} {b₀ : Builder} {i : ℕ} {out : List ℕ} {b : Builder} (q : Mapping w start count old b₀ i out b) where
-  pub mapping-fit : i < count → RoomFor b 1
-  mapping-fit h = room-less 1 (omega arith) (q .fit)
+  pub mapping-room : i < count → RoomFor b 1
+  mapping-room h = room-less 1 (omega arith) (q .room)
 
-  clean-at : Sound w → length (w .image) ≤ 2 ^ 48 → allowed start count ≡ true → i < count → Mappable (pageAnswer (resolveOf 3 w (start + 4096 * i) .place))
-  clean-at sound small range h =
+  mappable-at : Sound w → length (w .image) ≤ 2 ^ 48 → allowed start count ≡ true → i < count → Mappable (mappedPageOf (resolveOf 3 w (start + 4096 * i) .place))
+  mappable-at sound small range h =
       let r = in-range (allowed-range start count range) (start + 4096 * i) (omega arith) (omega arith) in
-      clean-answer (resolveOf 3 w (start + 4096 * i) .place) (resolve-mapped w sound small 3 (start + 4096 * i) (r .reaches))
+      mappable (resolveOf 3 w (start + 4096 * i) .place) (resolve-coded w sound small 3 (start + 4096 * i) (r .reaches))
 
   pub mapping-next : Sound w → length (w .image) ≤ 2 ^ 48 → allowed start count ≡ true → i < count → (v : Resolved) → v ≡ resolvedOf (resolveOf 3 w (start + 4096 * i)) → (a : Answer) → a ≡ placeAnswer (v .place) (v .entries)
-      → (new : List ℕ) (b′ : Builder) → PagesTaken out b (page (a .number) (a .offset / 4096) ∷ []) new b′ → Mapping w start count old b₀ (i + 1) new b′
+      → (new : List ℕ) (b′ : Builder) → PagesTaken out b (mappedPage (a .number) (a .offset / 4096) ∷ []) new b′ → Mapping w start count old b₀ (i + 1) new b′
   mapping-next sound small range h v e a f new b′ p =
       let same-place : v .place ≡ resolveOf 3 w (start + 4096 * i) .place = ap (λ (z : Resolved). z .place) e in
-      let same : page (a .number) (a .offset / 4096) ≡ pageAnswer (resolveOf 3 w (start + 4096 * i) .place) = rw (f, same-place) in
-      let p′ : PagesTaken out b (pageAnswer (resolveOf 3 w (start + 4096 * i) .place) ∷ []) new b′ = rw same at p in
-      let clean = clean-at sound small range h in
+      let same : mappedPage (a .number) (a .offset / 4096) ≡ mappedPageOf (resolveOf 3 w (start + 4096 * i) .place) = rw (f, same-place) in
+      let p′ : PagesTaken out b (mappedPageOf (resolveOf 3 w (start + 4096 * i) .place) ∷ []) new b′ = rw same at p in
+      let holds = mappable-at sound small range h in
       let k : count - i ≡ suc (count - (i + 1)) = omega arith in
       record {
         within = omega arith;
-        afterPages = rw (pages-next i w start) (taken-then (q .afterPages) p′);
-        fit = room-pushed (count - (i + 1)) (omega (arith, code-small (pageAnswer (resolveOf 3 w (start + 4096 * i) .place) .code) (clean .code))) (omega (arith, clean .file)) (rw k at (q .fit)) p′;
+        taken = rw (pages-next i w start) (taken-then (q .taken) p′);
+        room = room-pushed (count - (i + 1)) (omega (arith, code-small (mappedPageOf (resolveOf 3 w (start + 4096 * i) .place) .code) (holds .code))) (omega (arith, holds .file)) (rw k at (q .room)) p′;
       }
 
   pub mapping-end : count ≤ i → RoomFor b 0
-  mapping-end h = room-less 0 (omega arith) (q .fit)
+  mapping-end h = room-less 0 (omega arith) (q .room)
 
-pub map-written : {w : World} {start count : ℕ} {o old out new : List ℕ} {at i r : ℕ} {b : Builder} → Wrote o 0 (headerBytes start count) at old → Mapping w start count old (emptyAt at) i out b → count ≤ i
+pub map-written : {w : World} {start count : ℕ} {o old out new : List ℕ} {at i r : ℕ} {b : Builder} → Wrote o 0 (headerBytes (headerOf start count)) at old → Mapping w start count old (emptyAt at) i out b → count ≤ i
     → Wrote out (b .at) (openBytes b) r new → Wrote o 0 (mapOf w start count) r new
-unfolding mapOf mapBytes headerBytes
+unfolding mapOf mapBytes
 map-written {w} {start} {count} {o} {old} {out} {new} {at} {i} {r} {b} p q h f =
     let all : i ≡ count = omega (arith, q .within) in
-    let extents : Wrote old at (extentsBytes (extentsOf (pagesOf count w start))) r new = rw all at (taken-finish (q .afterPages) f) in
-    rw (sym (regroup (encode 1) (encode (bits start 12 47)) (encode count) (extentsBytes (extentsOf (pagesOf count w start))))) (wrote-then p extents)
-  where
-    regroup : (x y z t : List ℕ) → (x ++ (y ++ z)) ++ t ≡ x ++ (y ++ (z ++ t))
-    regroup x y z t = simp append-assoc
+    let extents : Wrote old at (extentsBytes (extentsOf (pagesOf count w start))) r new = rw all at (taken-finish (q .taken) f) in
+    wrote-then p extents
 
 pub wrote-long : {o o′ bs : List ℕ} {at r : ℕ} → Wrote o at bs r o′ → length o′ ≡ length o
 wrote-long {o} {o′} {bs} {at} {r} q = rw (q .bytes) (length-sets o at bs)

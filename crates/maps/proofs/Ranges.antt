@@ -6,10 +6,9 @@ use native.Mathlib.Omega.{arith}
 use lib.Dec.{eqb, leb}
 use borrow.Author.Tests.{lt-ltb, le-ltb, le-leb, lt-leb, leb-true, leb-false, eq-eqb, ne-eqb, eqb-true}
 use Rattle.base.specs.Notation.{bits, within}
-use Rattle.base.proofs.Test.{Test, test, below, above}
+use Rattle.base.proofs.Test.{Test, test, below, above, both-true}
 use Rattle.entry.specs.Addresses.{canonical, reachable}
 use Rattle.map_format.specs.Reading.{inHalf}
-use Rattle.map_format.proofs.Pages.{both-true}
 use Rattle.maps.specs.MapOf.{allowed}
 
 -- two comparisons that say the same

@@ -12,7 +12,7 @@ use Rattle.base.specs.Notation.{if_then_else_, bits}
 use Rattle.base.specs.Refusal.{refusalNumber}
 use Rattle.base.specs.declared.Refusal.{Refusal}
 use Rattle.base.specs.declared.Refusal.the-variants.{BadMapRange, MapBufferShort}
-use Rattle.base.proofs.Test.{Test, test, below, above}
+use Rattle.base.proofs.Test.{Test, test, below, above, both-true}
 use Rattle.base.proofs.Numbers.{ten-or-more}
 use Rattle.sheet.specs.Sheet.{pagesIn}
 use Rattle.sheet.specs.Sheet as sheet
@@ -25,29 +25,30 @@ use Rattle.walk.specs.Rows.{worldIn}
 use Rattle.walk.specs.declared.Place.{Place}
 use Rattle.walk.specs.declared.Place.the-variants.{Image, Pagefile, Zeros, Refused}
 use Rattle.walk.proofs.Ground.{Sound, At, resolve-at, grounded}
+use Rattle.walk.proofs.Codes.{resolve-coded}
 use Rattle.walk.proofs.SamePage.{moved, same-page}
 use Rattle.walk.proofs.CaseWorld.{Opened}
 use Rattle.address.specs.Case.{checkOf}
 use Rattle.address.specs.Address.{GroundedIn}
 use Rattle.map_format.specs.Reading.{mapFields}
-use Rattle.map_format.specs.Extents.{MappedPage, hasFilePage, extentsOf, pageAt}
-use Rattle.map_format.specs.Answers.{page, pageOf, ZeroWithoutFile, SameAnswer, AllMappable}
+use Rattle.map_format.specs.Extents.{hasFilePage, extentsOf, pageAt}
 use Rattle.map_format.specs.declared.Extent.{Extent}
-use Rattle.map_format.proofs.Pages.{both-true, pages-back}
+use Rattle.map_format.specs.declared.MappedPage.{MappedPage}
+use Rattle.map_format.proofs.Answers.{pageOf, ZeroWithoutFile, SameAnswer, AllMappable}
+use Rattle.map_format.proofs.Pages.{pages-back}
 use Rattle.map_format.proofs.Fewest.{fewest}
 use Rattle.map_format.proofs.ReadBack.{reads-back}
-use Rattle.lookup.specs.Lookup.{answerAt, lookupOf}
+use Rattle.lookup.specs.Call.{answerAt, lookupOf}
 use Rattle.lookup.specs.declared.Found.{Found}
-use Rattle.maps.specs.MapOf.{pageAnswer, pagesOf, mapOf, allowed, mapInWorld, mapCall}
+use Rattle.maps.specs.MapOf.{mappedPageOf, pagesOf, headerOf, mapOf, allowed, mapInWorld, mapCall}
 use Rattle.maps.specs.Demand3.{walkAnswer, AnswersAsWalk, Fewest, Demand3, MapAnswer}
 use Rattle.base.specs.declared.Written.{Written}
 use Rattle.base.specs.Written.{notWritten, written}
-use Rattle.maps.proofs.Codes.{resolve-mapped, clean-answer}
 use Rattle.maps.proofs.Ranges.{Allowed, allowed-range, in-range, start-in-half}
-use Rattle.maps.proofs.Mapping.{pages-long}
+use Rattle.maps.proofs.Mapping.{mappable, pages-long}
 
 -- page k of the pages
-nth-page : (n : ℕ) (w : World) (a k : ℕ) → k < n → pageOf (pagesOf n w a) k ≡ pageAnswer (resolveOf 3 w (a + 4096 * k) .place)
+nth-page : (n : ℕ) (w : World) (a k : ℕ) → k < n → pageOf (pagesOf n w a) k ≡ mappedPageOf (resolveOf 3 w (a + 4096 * k) .place)
 unfolding pagesOf
 nth-page zero w a k h = absurd (omega arith)
 nth-page (suc n) w a zero h =
@@ -64,7 +65,7 @@ refusal-no-file r =
     rw (ne-eqb (refusalNumber r) 1 (λ e. omega (arith, e, h)), ne-eqb (refusalNumber r) 2 (λ e. omega (arith, e, h)))
 
 -- the answer of a page's first byte gives that of each of its bytes
-page-answers : (w : World) (b k : ℕ) → b % 4096 ≡ 0 → k < 4096 → (p : Place) → At w b p → answerAt (b + k) (pageAnswer p) ≡ record { number = numberOf (moved k p); offset = offsetOf (moved k p) }
+page-answers : (w : World) (b k : ℕ) → b % 4096 ≡ 0 → k < 4096 → (p : Place) → At w b p → answerAt (b + k) (mappedPageOf p) ≡ record { number = numberOf (moved k p); offset = offsetOf (moved k p) }
 page-answers w b k hb hk (Image o) t = ap (λ (x : ℕ). record { number = 1; offset = x }) (omega (arith, t .1))
 page-answers w b k hb hk (Pagefile o) t = ap (λ (x : ℕ). record { number = 2; offset = x }) (omega (arith, t .1))
 page-answers w b k hb hk Zeros t = refl
@@ -77,24 +78,24 @@ module _ (w : World) (sound : Sound w) (small : length (w .image) ≤ 2 ^ 48) (s
   abbrev pages : List MappedPage
   pages = pagesOf count w start
 
-  all-clean : (n a : ℕ) → ((k : ℕ) → k < n → reachable (a + 4096 * k) ≡ true) → AllMappable (pagesOf n w a)
+  all-mappable : (n a : ℕ) → ((k : ℕ) → k < n → reachable (a + 4096 * k) ≡ true) → AllMappable (pagesOf n w a)
   unfolding pagesOf
-  all-clean zero a h = tt
-  all-clean (suc n) a h =
+  all-mappable zero a h = tt
+  all-mappable (suc n) a h =
       let e : a + 4096 * 0 ≡ a = omega arith in (
-        clean-answer (resolveOf 3 w a .place) (resolve-mapped w sound small 3 a (rw e at (h 0 (omega arith)))),
-        all-clean n (a + 4096) (λ k l. rw (afterPage k) (h (suc k) (omega arith))),
+        mappable (resolveOf 3 w a .place) (resolve-coded w sound small 3 a (rw e at (h 0 (omega arith)))),
+        all-mappable n (a + 4096) (λ k l. rw (afterPage k) (h (suc k) (omega arith))),
       )
     where
       afterPage : (k : ℕ) → a + 4096 + 4096 * k ≡ a + 4096 * suc k
       afterPage k = omega arith
 
-  clean : AllMappable pages
-  clean = all-clean count start (λ k l. in-range q (start + 4096 * k) (omega arith) (omega arith) .reaches)
+  holds : AllMappable pages
+  holds = all-mappable count start (λ k l. in-range q (start + 4096 * k) (omega arith) (omega arith) .reaches)
 
-  normal : (ps : List MappedPage) → AllMappable ps → ZeroWithoutFile ps
-  normal [] c = tt
-  normal (p ∷ ps) c = (c .0 .zero-without-file, normal ps (c .1))
+  zero-files : (ps : List MappedPage) → AllMappable ps → ZeroWithoutFile ps
+  zero-files [] c = tt
+  zero-files (p ∷ ps) c = (c .0 .zero-without-file, zero-files ps (c .1))
 
   canonical-of : (a : ℕ) → reachable a ≡ true → canonical a ≡ true
   unfolding reachable
@@ -110,10 +111,10 @@ module _ (w : World) (sound : Sound w) (small : length (w .image) ≤ 2 ^ 48) (s
       let hk : k < count = omega arith in
       let hb : b % 4096 ≡ 0 = omega (arith, q .aligned) in
       let here : b + o ≡ a = omega (arith, q .aligned) in
-      let at : pageOf pages k ≡ pageAnswer (resolveOf 3 w b .place) = nth-page count w start k hk in
+      let at : pageOf pages k ≡ mappedPageOf (resolveOf 3 w b .place) = nth-page count w start k hk in
       let move : resolveOf 3 w a .place ≡ moved o (resolveOf 3 w b .place) = ap (λ (x : ℕ). resolveOf 3 w x .place) (sym here) ∙ ap (λ v. v .place) (same-page w b o hb (omega arith) 3) in
       ap (answerAt a) at
-      ∙ ap (λ (x : ℕ). answerAt x (pageAnswer (resolveOf 3 w b .place))) (sym here)
+      ∙ ap (λ (x : ℕ). answerAt x (mappedPageOf (resolveOf 3 w b .place))) (sym here)
       ∙ page-answers w b o hb (omega arith) (resolveOf 3 w b .place) (resolve-at w sound 3 b)
       ∙ ap (λ (p : Place). record { number = numberOf p; offset = offsetOf p }) (sym move)
 
@@ -122,7 +123,7 @@ module _ (w : World) (sound : Sound w) (small : length (w .image) ≤ 2 ^ 48) (s
   map-answers a l u =
       let r = in-range q a l u in
       rw (
-        reads-back pages (bits start 12 47) count clean (sym (pages-long count w start)) (start-in-half q),
+        reads-back pages (headerOf start count) holds (sym (pages-long count w start)) (start-in-half q),
         canonical-of a (r .reaches),
         le-leb (bits start 12 47) (bits a 12 47) (r .not-below),
         lt-ltb (bits a 12 47) (bits start 12 47 + count) (r .not-above),
@@ -133,7 +134,7 @@ module _ (w : World) (sound : Sound w) (small : length (w .image) ≤ 2 ^ 48) (s
 
   -- ---- no list of extents that answers so is shorter
 
-  same-answer : (x : MappedPage) (p : Place) (a : ℕ) → a % 4096 ≡ 0 → answerAt a x ≡ record { number = numberOf p; offset = offsetOf p } → SameAnswer x (pageAnswer p)
+  same-answer : (x : MappedPage) (p : Place) (a : ℕ) → a % 4096 ≡ 0 → answerAt a x ≡ record { number = numberOf p; offset = offsetOf p } → SameAnswer x (mappedPageOf p)
   same-answer x p a h e =
       let ec : x .code ≡ numberOf p = ap (λ (z : Found). z .number) e in
       record { code = ec; file = λ c. go (rw (← ec) at c) }
@@ -145,7 +146,7 @@ module _ (w : World) (sound : Sound w) (small : length (w .image) ≤ 2 ^ 48) (s
           omega arith
 
   fewest-extents : (es : List Extent) → AnswersAsWalk w start count es → length (extentsOf pages) ≤ length es
-  fewest-extents es s = fewest pages es (normal pages clean) (record { lengths = s .lengths; sum = s .sum ∙ sym (pages-long count w start); answers = each })
+  fewest-extents es s = fewest pages es (zero-files pages holds) (record { lengths = s .lengths; sum = s .sum ∙ sym (pages-long count w start); answers = each })
     where
       each : (k : ℕ) → k < length pages → SameAnswer (pageAt es k) (pageOf pages k)
       each k h =
@@ -157,7 +158,7 @@ module _ (w : World) (sound : Sound w) (small : length (w .image) ≤ 2 ^ 48) (s
 
   map-fewest : Fewest w start count (mapFields (mapOf w start count) 0)
   unfolding mapOf
-  map-fewest = rw (reads-back pages (bits start 12 47) count clean (sym (pages-long count w start)) (start-in-half q)) fewest-extents
+  map-fewest = rw (reads-back pages (headerOf start count) holds (sym (pages-long count w start)) (start-in-half q)) fewest-extents
 
   -- ---- demand 3
 

@@ -9,10 +9,9 @@ use Rattle.base.specs.Written.{WriteOutcome}
 use Rattle.base.specs.declared.Written.{Written}
 use Rattle.base.specs.declared.Refusal.the-variants.{MapBufferShort}
 use Rattle.walk.specs.Walk.{World, resolveOf, numberOf, offsetOf}
-use Rattle.map_format.specs.Extents.{pageAt, extentPages}
-use Rattle.map_format.specs.Answers.{Lengths}
+use Rattle.map_format.specs.Extents.{pageAt, extentPages, Lengths}
 use Rattle.map_format.specs.declared.Extent.{Extent}
-use Rattle.lookup.specs.Lookup.{answerAt, lookupOf}
+use Rattle.lookup.specs.Call.{answerAt, lookupOf}
 use Rattle.lookup.specs.declared.Found.{Found}
 use Rattle.sheet.specs.Sheet.{Check, accepted, refused}
 use Rattle.walk.specs.Walk.{worldOf}

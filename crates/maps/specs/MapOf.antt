@@ -4,33 +4,34 @@ use mathlib.Core.Bool.{Bool, _&&_, _||_}
 use mathlib.Core.List.{List, [], _∷_, _++_}
 use lib.Dec.{ltb, leb, eqb}
 use lib.ListN.{length}
-use Rattle.base.specs.Notation.{if_then_else_, bits, within}
+use Rattle.base.specs.Notation.{if_then_else_, within}
 use Rattle.base.specs.Written.{WriteOutcome, unwritten, written}
 use Rattle.base.specs.declared.Refusal.the-variants.{BadMapRange, MapBufferShort}
-use Rattle.varint.specs.Groups.{encode}
+use Rattle.entry.specs.Pages.{virtualPageOf}
 use Rattle.sheet.specs.Sheet.{Check, accepted, refused}
 use Rattle.walk.specs.Walk.{World, worldOf, resolveOf, numberOf, offsetOf}
 use Rattle.walk.specs.declared.Place.{Place}
 use Rattle.address.specs.Case.{checkOf}
-use Rattle.map_format.specs.Extents.{MappedPage, extentsOf}
+use Rattle.map_format.specs.Extents.{mappedPage, extentsOf}
 use Rattle.map_format.specs.Layout.{mapBytes}
+use Rattle.map_format.specs.declared.Header.{Header}
+use Rattle.map_format.specs.declared.MappedPage.{MappedPage}
 
 -- the number as code, for 1 and 2 the offset divided by 4,096 as file page
-abbrev pub pageAnswer : Place → MappedPage
-pageAnswer p = record { code = numberOf p; file = offsetOf p / 4096 }
+abbrev pub mappedPageOf : Place → MappedPage
+mappedPageOf p = mappedPage (numberOf p) (offsetOf p / 4096)
 
 -- the answer for each page's first byte, in order
 unfoldable pub pagesOf : ℕ → World → ℕ → List MappedPage
 pagesOf zero w a = []
-pagesOf (suc n) w a = pageAnswer (resolveOf 3 w a .place) ∷ pagesOf n w (a + 4096)
+pagesOf (suc n) w a = mappedPageOf (resolveOf 3 w a .place) ∷ pagesOf n w (a + 4096)
 
--- edition, start page, page count
-unfoldable pub headerBytes : ℕ → ℕ → List ℕ
-headerBytes start count = encode 1 ++ (encode (bits start 12 47) ++ encode count)
+abbrev pub headerOf : ℕ → ℕ → Header
+headerOf start count = record { start = virtualPageOf start; count = count }
 
 -- the map of a range, whether it fits or not
 unfoldable pub mapOf : World → ℕ → ℕ → List ℕ
-mapOf w start count = mapBytes (bits start 12 47) count (extentsOf (pagesOf count w start))
+mapOf w start count = mapBytes (headerOf start count) (extentsOf (pagesOf count w start))
 
 -- 1 to 2^20 whole pages, all canonical and in one half
 unfoldable pub allowed : ℕ → ℕ → Bool

@@ -4,6 +4,8 @@ use base::Written;
 use entry::Frame;
 use entry::VirtualPage;
 use map_format::Builder;
+use map_format::Header;
+use map_format::MappedPage;
 use sheet::Outcome;
 ghost use mathlib.Core.Path.{_≡_};
 ghost use mathlib.Core.Bool.{true};
@@ -11,8 +13,18 @@ ghost use Prim.Native.Nat.{_≤_, _^_};
 ghost use lib.ListN.{length};
 ghost use Rattle.base.specs.Overlay.{Wrote};
 ghost use Rattle.walk.specs.Rows.{worldIn};
-ghost use Rattle.maps.specs.MapOf.{headerBytes, mapOf, allowed, mapInWorld};
+ghost use Rattle.maps.specs.MapOf.{mapOf, allowed, mapInWorld};
 ghost use Rattle.maps.specs.Demand3.{MapAnswer};
+
+// 01 "What the reader covers": the bytes of a page.
+const PAGE_BYTES: u64 = 0x1000;
+
+// 01 "One address": canonical addresses are those below 2^47 and those from 2^64 - 2^47 on.
+const LOWER_HALF_END: u64 = 0x8000_0000_0000;
+
+const UPPER_HALF: u64 = 0xFFFF_8000_0000_0000;
+
+const LAST_ADDRESS: u64 = 0xFFFF_FFFF_FFFF_FFFF;
 
 // The map of a range into the lent buffer.
 pub fn map_range(
@@ -79,22 +91,22 @@ fn map_in(
 fn is_allowed(start: u64, pages: u64) -> bool
     ensures { λ r. ⌜ r ≡ allowed start pages ⌝ }
 {
-    if start % 4096 != 0 {
+    if start % PAGE_BYTES != 0 {
         return false;
     }
     if pages < 1 {
         return false;
     }
-    if 1048576 < pages {
+    if map_format::MOST_PAGES < pages {
         return false;
     }
-    if start < 18446603336221196288 {
-        if 140737488355328 < start {
+    if start < UPPER_HALF {
+        if LOWER_HALF_END < start {
             return false;
         }
-        return 4096 * pages <= 140737488355328 - start;
+        return PAGE_BYTES * pages <= LOWER_HALF_END - start;
     }
-    4096 * pages - 1 <= 18446744073709551615 - start
+    PAGE_BYTES * pages - 1 <= LAST_ADDRESS - start
 }
 
 // Writes the map, and answers its length; bytes that fall past the buffer's end are counted and not written.
@@ -110,7 +122,11 @@ fn write_map(
     requires { ⌜ (allowed start pages ≡ true) × (length (now image) ≤ 2 ^ 48) ⌝ }
     ensures { λ r. ⌜ Wrote (now (out .entry)) 0 (mapOf (worldIn (now (rows .entry)) directory (now (image .entry)) (now (pagefile .entry))) start pages) r (now (out .exit)) ⌝ }
 {
-    let at = write_header(start, pages, out);
+    let header = Header {
+        start: VirtualPage::of_address(start),
+        count: pages,
+    };
+    let at = map_format::write_header(out, header);
     let mut builder = Builder {
         at: at,
         code: 0,
@@ -119,21 +135,14 @@ fn write_map(
     };
     let mut i = 0;
     while i < pages {
-        let found = walk::resolve_in(rows, image, pagefile, directory, start + 4096 * i);
-        let page = address::answer_of(found);
-        builder = builder.push(out, page.number, page.offset / 4096);
+        let found = walk::resolve_in(rows, image, pagefile, directory, start + PAGE_BYTES * i);
+        let answer = address::answer_of(found);
+        let page = MappedPage {
+            code: answer.number,
+            file: answer.offset / PAGE_BYTES,
+        };
+        builder = builder.push(out, page);
         i += 1;
     }
     builder.finish(out)
-}
-
-// Edition, start page, page count.
-fn write_header(start: u64, pages: u64, out: &mut [u8]) -> usize
-    requires { ⌜ pages ≤ 2 ^ 20 ⌝ }
-    ensures { λ r. ⌜ Wrote (now (out .entry)) 0 (headerBytes start pages) r (now (out .exit)) ⌝ }
-{
-    let a = varint::write_number(out, 0, 1);
-    let first = VirtualPage::of_address(start);
-    let b = varint::write_number(out, a, first.number());
-    varint::write_number(out, b, pages)
 }

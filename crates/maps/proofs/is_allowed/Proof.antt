@@ -1,3 +1,4 @@
+-- Each return is the law of the test that decides, with the tests before it.
 use native.Mathlib.Omega.{arith}
 use Rattle.maps.proofs.Ranges.{unaligned, no-pages, too-many, between, low-half, high-half}
 use borrow.Author.Needs.{needs}

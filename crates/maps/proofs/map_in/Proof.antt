@@ -1,3 +1,4 @@
+-- The measuring pass writes nothing into its empty part; the second pass writes the map where the first found it to fit.
 use lib.ListN.{length-take}
 use native.Mathlib.Omega.{arith}
 use Rattle.maps.proofs.Mapping.{short-map, full-map}
@@ -30,7 +31,9 @@ same-length-2 : tie.Need-same-length-2
 same-length-2 c = search needs
 
 returns-2 : tie.Need-returns-2
-returns-2 c = full-map _ _ _ _ _ _ (c .before .before .before .before .before .before .before .write-map .ensures) (c .before .before .before .before .if1 .left) _ _ (c .before .before .write-map2 .ensures)
+returns-2 c =
+    let at-room = c .before .before .before .before in
+    full-map _ _ _ _ _ _ (at-room .before .before .before .write-map .ensures) (at-room .if1 .left) _ _ (c .before .before .write-map2 .ensures)
 
 pub map-in-spec : {M : Type 1} → statement M
 map-in-spec =

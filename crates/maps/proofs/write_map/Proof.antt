@@ -1,11 +1,14 @@
+-- The loop keeps `Mapping`: the builder has taken the pages so far; at its end the header, these pages and the open extent are the map.
 use borrow.Author.Needs.{needs}
+use mathlib.Core.Path.{ap}
 use native.Mathlib.Omega.{arith}
 use Prim.Native.Nat.{_-_}
 use denote.Ref.{now}
+use Rattle.entry.specs.declared.VirtualPage.{VirtualPage}
 use Rattle.walk.specs.Rows.{worldIn}
 use Rattle.walk.proofs.Cycle.{sound-rows}
 use Rattle.maps.proofs.Ranges.{allowed-range, range-top}
-use Rattle.maps.proofs.Mapping.{Mapping, mapping-none, mapping-fit, mapping-next, mapping-end, map-written, wrote-long}
+use Rattle.maps.proofs.Mapping.{Mapping, mapping-none, mapping-room, mapping-next, mapping-end, map-written, wrote-long}
 use Rattle.maps.proofs.write_map.Statement.{statement}
 use Rattle.maps.proofs.write_map.Tie as tie
 
@@ -15,17 +18,28 @@ Inv-loop rows image pagefile directory start pages out₀ at builder₀ i₀ out
 abbrev μ-loop : tie.MeasureT-loop
 μ-loop rows image pagefile directory start pages out₀ at builder₀ i₀ out builder i = pages - i
 
+of-address-requires : tie.Need-of-address-requires Inv-loop μ-loop
+of-address-requires c κs = search needs
+
 write-header-requires : tie.Need-write-header-requires Inv-loop μ-loop
-write-header-requires c κs = allowed-range _ _ (c .before .before .before .before .before .pre .0) .most
+write-header-requires c κs =
+    let at-page = c .before in
+    let start-page = ap (λ (page : VirtualPage). page .0) (at-page .of-address .ensures) in
+    (omega (arith, start-page), omega (arith, allowed-range _ _ (at-page .before .before .before .before .before .pre .0) .most))
 
 loop-holds : tie.Need-loop-holds Inv-loop μ-loop
-loop-holds c = mapping-none (worldIn (now (c .before .before .before .before .before .before .before .before .args .rows)) (c .before .before .before .before .before .before .before .before .args .directory) (now (c .before .before .before .before .before .before .before .before .args .image)) (now (c .before .before .before .before .before .before .before .before .args .pagefile))) _ _ _ _ (allowed-range _ _ (c .before .before .before .before .before .before .before .before .pre .0) .most) (c .before .before .write-header .ensures)
+loop-holds c =
+    let at-page = c .before .before .before .before in
+    let start = at-page .before .before .before .before .before in
+    let world = worldIn (now (start .args .rows)) (start .args .directory) (now (start .args .image)) (now (start .args .pagefile)) in
+    let header = rw (at-page .of-address .ensures) at (c .before .before .write-header .ensures) in
+    mapping-none world _ _ _ _ (allowed-range _ _ (start .pre .0) .most) header
 
 mul-resolve-in : tie.Need-mul-resolve-in Inv-loop μ-loop
-mul-resolve-in c = omega (arith, allowed-range _ _ (c .before .before .before .before .before .before .before .before .before .before .pre .0) .most)
+mul-resolve-in c = let at-page = c .before .before .before .before .before .before in omega (arith, allowed-range _ _ (at-page .before .before .before .before .before .pre .0) .most)
 
 add-resolve-in : tie.Need-add-resolve-in Inv-loop μ-loop
-add-resolve-in c = omega (arith, range-top (allowed-range _ _ (c .before .before .before .before .before .before .before .before .before .before .pre .0)))
+add-resolve-in c = let at-page = c .before .before .before .before .before .before in omega (arith, range-top (allowed-range _ _ (at-page .before .before .before .before .before .pre .0)))
 
 resolve-in-requires : tie.Need-resolve-in-requires Inv-loop μ-loop
 resolve-in-requires c κs = search needs
@@ -34,25 +48,41 @@ answer-of-requires : tie.Need-answer-of-requires Inv-loop μ-loop
 answer-of-requires c κs = search needs
 
 push-requires : tie.Need-push-requires Inv-loop μ-loop
-push-requires c κs = mapping-fit (c .before .before .before .before .before .loop .inv) (c .before .before .before .before .loop-test .taken)
+push-requires c κs = mapping-room (c .before .before .before .before .before .loop .inv) (c .before .before .before .before .loop-test .taken)
 
 add-i : tie.Need-add-i Inv-loop μ-loop
-add-i c = omega (arith, c .before .before .before .before .before .before .before .loop-test .taken, allowed-range _ _ (c .before .before .before .before .before .before .before .before .before .before .before .before .before .before .before .before .before .pre .0) .most)
+add-i c =
+    let at-test = c .before .before .before .before .before .before .before in
+    let start = at-test .before .before .before .before .before .before .before .before .before .before .before in
+    omega (arith, at-test .loop-test .taken, allowed-range _ _ (start .pre .0) .most)
 
 loop-less : tie.Need-loop-less Inv-loop μ-loop
 loop-less c = search needs
 
 loop-again : tie.Need-loop-again Inv-loop μ-loop
-loop-again c = mapping-next (c .before .before .before .before .before .before .before .before .loop .inv) (sound-rows (now (c .before .before .before .before .before .before .before .before .before .before .before .before .before .before .before .before .before .args .rows)) (c .before .before .before .before .before .before .before .before .before .before .before .before .before .before .before .before .before .args .directory) (now (c .before .before .before .before .before .before .before .before .before .before .before .before .before .before .before .before .before .args .image)) (now (c .before .before .before .before .before .before .before .before .before .before .before .before .before .before .before .before .before .args .pagefile))) (c .before .before .before .before .before .before .before .before .before .before .before .before .before .before .before .before .before .pre .1) (c .before .before .before .before .before .before .before .before .before .before .before .before .before .before .before .before .before .pre .0) (c .before .before .before .before .before .before .before .loop-test .taken) _ (c .before .before .before .before .before .before .resolve-in .ensures) _ (c .before .before .before .before .before .answer-of .ensures) _ _ (c .before .before .push .ensures)
+loop-again c =
+    let at-test = c .before .before .before .before .before .before .before in
+    let start = at-test .before .before .before .before .before .before .before .before .before .before .before in
+    let sound = sound-rows (now (start .args .rows)) (start .args .directory) (now (start .args .image)) (now (start .args .pagefile)) in
+    mapping-next (at-test .before .loop .inv) sound (start .pre .1) (start .pre .0) (at-test .loop-test .taken) _ (c .before .before .before .before .before .before .resolve-in .ensures) _ (c .before .before .before .before .before .answer-of .ensures) _ _
+    (c .before .before .push .ensures)
 
 finish-requires : tie.Need-finish-requires Inv-loop μ-loop
 finish-requires c κs = mapping-end (c .before .before .loop .inv) (c .before .loop-test .left)
 
 same-length : tie.Need-same-length Inv-loop μ-loop
-same-length c = wrote-long (map-written (c .before .before .before .before .before .before .before .before .write-header .ensures) (c .before .before .before .before .before .loop .inv) (c .before .before .before .before .loop-test .left) (c .before .before .finish .ensures))
+same-length c =
+    let at-loop = c .before .before .before .before .before in
+    let at-page = at-loop .before .before .before .before .before in
+    let header = rw (at-page .of-address .ensures) at (at-loop .before .before .before .write-header .ensures) in
+    wrote-long (map-written header (at-loop .loop .inv) (c .before .before .before .before .loop-test .left) (c .before .before .finish .ensures))
 
 returns : tie.Need-returns Inv-loop μ-loop
-returns c = map-written (c .before .before .before .before .before .before .before .before .write-header .ensures) (c .before .before .before .before .before .loop .inv) (c .before .before .before .before .loop-test .left) (c .before .before .finish .ensures)
+returns c =
+    let at-loop = c .before .before .before .before .before in
+    let at-page = at-loop .before .before .before .before .before in
+    let header = rw (at-page .of-address .ensures) at (at-loop .before .before .before .write-header .ensures) in
+    map-written header (at-loop .loop .inv) (c .before .before .before .before .loop-test .left) (c .before .before .finish .ensures)
 
 pub write-map-spec : {M : Type 1} → statement M
 write-map-spec =
@@ -60,6 +90,7 @@ write-map-spec =
     (tie.spec
     Inv-loop
     μ-loop
+    of-address-requires
     write-header-requires
     loop-holds
     mul-resolve-in
