@@ -1,7 +1,7 @@
 -- P2 of 01, looked up; and named inputs at which a wrong lookup would answer otherwise.
 use mathlib.Core.Path.{refl}
 use mathlib.Core.List.{List, [], _∷_}
-use Prim.Native.Nat.{ℕ, zero, _+_}
+use Prim.Native.Nat.{ℕ, _+_}
 use Rattle.base.specs.Example.{Example, same, Hold}
 use Rattle.base.specs.Codes.{isCode}
 use Rattle.varint.specs.Groups.{decode, number}

@@ -1,10 +1,10 @@
 -- The lookup in a whole map, step by step.
 use mathlib.Core.Path.{_≡_, refl, sym, ap, _∙_}
 use mathlib.Core.List.{List}
-use mathlib.Core.Bool.{Bool, true, false, not, _&&_}
-use Prim.Native.Nat.{ℕ, zero, _+_, _-_, _^_, _<_, _≤_}
+use mathlib.Core.Bool.{Bool, true, false, not}
+use Prim.Native.Nat.{ℕ, _+_, _-_, _^_, _<_, _≤_}
 use native.Mathlib.Omega.{arith}
-use lib.Dec.{eqb, ltb, leb}
+use lib.Dec.{eqb}
 use lib.ListN.{length}
 use borrow.Author.Tests.{lt-ltb, le-ltb, le-leb, lt-leb}
 use Rattle.base.specs.Notation.{if_then_else_}
@@ -31,8 +31,8 @@ use Rattle.lookup.specs.declared.PageRead.the-variants.{Answered, Refuse
 abbrev ending : Header → List Extent → List ℕ → ℕ → Bool → Read Map
 ending h es s i b = after s (λ (u : Unit {0}). return (record { header = h; extents = es })) (if b then got tt i else bad TrailingBytes)
 
-abbrev mapOf : Header → List ℕ → Read (List Extent) → Read Map
-mapOf h s d = after s (λ (es : List Extent). λ (t : List ℕ) (i : ℕ). ending h es t i (eqb i (length t))) d
+abbrev mapRead : Header → List ℕ → Read (List Extent) → Read Map
+mapRead h s d = after s (λ (es : List Extent). λ (t : List ℕ) (i : ℕ). ending h es t i (eqb i (length t))) d
 
 page-asked : (a : ℕ) (h : Header) (es : List Extent) (b : Bool)
     → (if b then answerAt a (pageAt es (if b then virtualPageOf a .0 - h .start .0 else 0)) else refusedLookup OutsideMap)
@@ -41,7 +41,7 @@ page-asked a h es true = refl
 page-asked a h es false = refl
 
 module _ (s : List ℕ) (a : ℕ) (h : Header) where
-  refused-in : (k : ℕ) (d : Read (List Extent)) (q : Refusal) → pageIn s k d ≡ Refused q → refusedLookup q ≡ lookupIn a (mapOf h s d)
+  refused-in : (k : ℕ) (d : Read (List Extent)) (q : Refusal) → pageIn s k d ≡ Refused q → refusedLookup q ≡ lookupIn a (mapRead h s d)
   refused-in k (bad p) q e =
       let same : p ≡ q = cc in
       ap refusedLookup (sym same)
@@ -53,7 +53,7 @@ module _ (s : List ℕ) (a : ℕ) (h : Header) where
           let same : TrailingBytes ≡ q = cc in
           ap refusedLookup (sym same)
 
-  answered-in : (d : Read (List Extent)) (p : MappedPage) → pageIn s (askedOf h (virtualPageOf a)) d ≡ Answered p → foundFor h a p ≡ lookupIn a (mapOf h s d)
+  answered-in : (d : Read (List Extent)) (p : MappedPage) → pageIn s (askedOf h (virtualPageOf a)) d ≡ Answered p → foundFor h a p ≡ lookupIn a (mapRead h s d)
   unfolding foundFor askedOf
   answered-in (bad q) p e = absurd (let z : _≡_ {A = ℕ} 0 1 = cc in omega arith)
   answered-in (got es i) p e = go (eqb i (length s)) e
@@ -87,7 +87,7 @@ module _ (s : List ℕ) (a : ℕ) where
     abbrev extents : Read (List Extent)
     extents = extentsFrom (h .count) (h .count) noExtent s at
 
-    map-read : lookupOf s a ≡ lookupIn a (mapOf h s extents)
+    map-read : lookupOf s a ≡ lookupIn a (mapRead h s extents)
     unfolding lookupOf mapFields
     map-read = rw e
 

@@ -1,5 +1,5 @@
 -- 01 "Maps", lookup: what the call hands back. The map's own faults, then 20, then 41.
-use Prim.Native.Nat.{ℕ, zero, _+_, _-_, _*_, _%_}
+use Prim.Native.Nat.{ℕ, _+_, _-_, _*_, _%_}
 use mathlib.Core.Bool.{Bool, not, _&&_}
 use mathlib.Core.List.{List}
 use lib.Dec.{ltb, leb}

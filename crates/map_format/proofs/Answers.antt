@@ -10,8 +10,8 @@ use Rattle.map_format.specs.declared.Extent.{Extent}
 use Rattle.map_format.specs.declared.MappedPage.{MappedPage}
 
 -- page k of a list of pages, counted from 0
-abbrev pub pageOf : List MappedPage → ℕ → MappedPage
-pageOf ps k = getD ps k (mappedPage 0 0)
+abbrev pub nthPage : List MappedPage → ℕ → MappedPage
+nthPage ps k = getD ps k (mappedPage 0 0)
 
 -- pages of a code other than 1 and 2 have file page 0
 abbrev pub ZeroWithoutFile : List MappedPage → Type 0
@@ -27,7 +27,7 @@ pub record SameAnswer (a p : MappedPage) : Type 0 where
 pub record AnswersAs (es : List Extent) (ps : List MappedPage) : Type 0 where
   pub lengths : Lengths es
   pub sum : extentPages es ≡ length ps
-  pub answers : (k : ℕ) → k < length ps → SameAnswer (pageAt es k) (pageOf ps k)
+  pub answers : (k : ℕ) → k < length ps → SameAnswer (pageAt es k) (nthPage ps k)
 
 -- a page that a map can hold
 pub record Mappable (p : MappedPage) : Type 0 where

@@ -1,13 +1,13 @@
 -- A builder that takes pages one by one writes the extents of the pages.
 use mathlib.Core.Path.{_≡_, refl, sym, ap, _∙_}
 use mathlib.Core.List.{List, [], _∷_, _++_, append-assoc, append-nil}
-use mathlib.Core.Bool.{Bool, true, false, _&&_}
-use Prim.Native.Nat.{ℕ, zero, suc, _+_, _*_, _^_, _<_, _≤_}
+use mathlib.Core.Bool.{Bool, true, false}
+use Prim.Native.Nat.{ℕ, suc, _+_, _*_, _^_, _<_, _≤_}
 use native.Mathlib.Omega.{arith}
 use lib.Dec.{eqb}
 use lib.ListN.{length, length-append}
 use lib.Seq.{sets}
-use borrow.Author.Tests.{eq-eqb, ne-eqb}
+use borrow.Author.Tests.{ne-eqb}
 use Rattle.base.specs.Notation.{if_then_else_}
 use Rattle.base.specs.Overlay.{Wrote}
 use Rattle.base.proofs.Overlay.{sets-append, wrote-then}
@@ -15,12 +15,16 @@ use Rattle.varint.specs.Groups.{encode}
 use Rattle.varint.proofs.Writing.{encode-length}
 use Rattle.map_format.specs.Extents.{hasFilePage, pageAfter, extent, joins, joined, extentsOf}
 use Rattle.map_format.specs.Layout.{headerBytes, extentBytes, extentsBytes}
-use Rattle.map_format.specs.Build.{emptyAt, openExtent, openBytes, followsOf, afterPage, writtenFor, afterPages, writtenForAll, PagesTaken, RoomFor}
+use Rattle.map_format.specs.Build.{openExtent, openBytes, followsOf, afterPage, writtenFor, afterPages, writtenForAll, PagesTaken, RoomFor}
 use Rattle.map_format.specs.declared.Builder.{Builder}
 use Rattle.map_format.specs.declared.Extent.{Extent}
 use Rattle.map_format.specs.declared.Header.{Header}
 use Rattle.map_format.specs.declared.MappedPage.{MappedPage}
 use Rattle.map_format.proofs.Pages.{joins-true, joined-joined}
+
+-- no extent is open, and the first will stand at `at`
+abbrev pub emptyAt : ℕ → Builder
+emptyAt at = record { at = at; code = 0; pages = 0; first = 0 }
 
 abbrev longer : Builder → Builder
 longer b = record { at = b .at; code = b .code; pages = b .pages + 1; first = b .first }

@@ -1,7 +1,7 @@
 -- P2 of 01, for the statement over P1 to P12; and named inputs at which a wrong reader would answer otherwise.
 use mathlib.Core.Path.{refl}
 use mathlib.Core.List.{List, [], _∷_}
-use Prim.Native.Nat.{ℕ, zero}
+use Prim.Native.Nat.{ℕ}
 use Rattle.base.specs.Example.{Example, same, Hold}
 use Rattle.base.specs.Refusal.{refusalNumber}
 use Rattle.base.specs.Codes.{isCode}

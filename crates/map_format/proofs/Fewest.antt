@@ -1,17 +1,17 @@
 -- No list of extents that answers as the pages do is shorter than theirs.
 use mathlib.Core.Path.{_≡_, refl, sym, ap, _∙_}
-use mathlib.Core.List.{List, [], _∷_, _++_}
+use mathlib.Core.List.{List, [], _∷_}
 use mathlib.Core.Bool.{Bool, true, false}
 use Prim.Native.Nat.{ℕ, zero, suc, _+_, _-_, _<_, _≤_}
 use native.Mathlib.Omega.{arith}
-use lib.ListN.{length, getD, length-append}
+use lib.ListN.{length, length-append}
 use borrow.Author.Tests.{lt-ltb, le-ltb}
 use Rattle.base.specs.Notation.{if_then_else_}
 use Rattle.base.proofs.Test.{Test, test, below, above}
 use Rattle.map_format.specs.Extents.{mappedPage, hasFilePage, pageAfter, extent, joins, joined, extentsOf, pageAt, extentPages, Lengths}
 use Rattle.map_format.specs.declared.Extent.{Extent}
 use Rattle.map_format.specs.declared.MappedPage.{MappedPage}
-use Rattle.map_format.proofs.Answers.{pageOf, ZeroWithoutFile, SameAnswer, AnswersAs}
+use Rattle.map_format.proofs.Answers.{nthPage, ZeroWithoutFile, SameAnswer, AnswersAs}
 use Rattle.map_format.proofs.Pages.{spread, expand, length-spread, extents-stretch, page-at}
 
 joined-length : (c n f : ℕ) (es : List Extent) → length (joined c n f es) ≤ suc (length es)
@@ -73,7 +73,7 @@ plains-page (e ∷ es) k h = go (test k (e .pages)) (λ l. plains-page es (k - e
     go (above l) ih = rw (le-ltb k (e .pages) l) (ih (omega arith))
 
 -- ---- two lists with the same pages
-same-pages : (ps qs : List MappedPage) → length ps ≡ length qs → ((k : ℕ) → k < length qs → pageOf ps k ≡ pageOf qs k) → ps ≡ qs
+same-pages : (ps qs : List MappedPage) → length ps ≡ length qs → ((k : ℕ) → k < length qs → nthPage ps k ≡ nthPage qs k) → ps ≡ qs
 same-pages [] [] l h = refl
 same-pages [] (q ∷ qs) l h = absurd (omega arith)
 same-pages (p ∷ ps) [] l h = absurd (omega arith)
@@ -86,7 +86,7 @@ expand-length : (es : List Extent) → length (expand es) ≡ extentPages es
 expand-length [] = refl
 expand-length (e ∷ es) = omega (arith, length-append (spread (e .code) (e .pages) (e .first)) (expand es), length-spread (e .code) (e .pages) (e .first), expand-length es)
 
-normal-page : (ps : List MappedPage) → ZeroWithoutFile ps → (k : ℕ) → k < length ps → hasFilePage (pageOf ps k .code) ≡ false → pageOf ps k .file ≡ 0
+normal-page : (ps : List MappedPage) → ZeroWithoutFile ps → (k : ℕ) → k < length ps → hasFilePage (nthPage ps k .code) ≡ false → nthPage ps k .file ≡ 0
 normal-page [] n k h = absurd (omega arith)
 normal-page (p ∷ ps) n zero h = n .0
 normal-page (p ∷ ps) n (suc k) h = normal-page ps (n .1) k (omega arith)
@@ -102,11 +102,11 @@ module _ (ps : List MappedPage) (es : List Extent) (n : ZeroWithoutFile ps) (q :
   sum : extentPages (plains es) ≡ length ps
   sum = plains-sum es ∙ q .sum
 
-  each : (k : ℕ) → k < length ps → pageOf (expand (plains es)) k ≡ pageOf ps k
+  each : (k : ℕ) → k < length ps → nthPage (expand (plains es)) k ≡ nthPage ps k
   each k h =
       sym (page-at (plains es) k (mappedPage 0 0) (omega (arith, sum)))
       ∙ plains-page es k (omega (arith, q .sum))
-      ∙ same-plain (pageAt es k) (pageOf ps k) (q .answers k h) (normal-page ps n k h)
+      ∙ same-plain (pageAt es k) (nthPage ps k) (q .answers k h) (normal-page ps n k h)
 
   pub fewest : length (extentsOf ps) ≤ length es
   fewest =

@@ -1,11 +1,11 @@
 -- The extents of a list of pages say what the pages say.
 use mathlib.Core.Path.{_≡_, refl, sym, ap, _∙_}
 use mathlib.Core.List.{List, [], _∷_, _++_, append-assoc}
-use mathlib.Core.Bool.{Bool, true, false, _&&_}
+use mathlib.Core.Bool.{Bool, true, false}
 use Prim.Native.Nat.{ℕ, zero, suc, _+_, _-_, _<_, _≤_}
 use native.Mathlib.Nat.{zero-add, suc-add}
 use native.Mathlib.Omega.{arith}
-use lib.Dec.{eqb, ltb}
+use lib.Dec.{eqb}
 use lib.ListN.{length, getD}
 use lib.Seq.{getD-append-add}
 use borrow.Author.Tests.{eq-eqb, eqb-true, lt-ltb, le-ltb}
@@ -14,7 +14,7 @@ use Rattle.base.proofs.Test.{Test, test, below, above, both-true}
 use Rattle.map_format.specs.Extents.{mappedPage, hasFilePage, pageAfter, extent, joins, joined, extentsOf, pageAt, extentPages}
 use Rattle.map_format.specs.declared.Extent.{Extent}
 use Rattle.map_format.specs.declared.MappedPage.{MappedPage}
-use Rattle.map_format.proofs.Answers.{pageOf}
+use Rattle.map_format.proofs.Answers.{nthPage}
 
 -- ---- the file page some pages on
 pub after-none : (c f : ℕ) → pageAfter c 0 f ≡ f
@@ -138,5 +138,5 @@ pages-sum [] = refl
 pages-sum (p ∷ ps) = joined-sum (p .code) 1 (p .file) (extentsOf ps) ∙ omega (arith, pages-sum ps)
 
 -- page k of the extents is page k
-pub pages-back : (ps : List MappedPage) (k : ℕ) → k < length ps → pageAt (extentsOf ps) k ≡ pageOf ps k
-pages-back ps k h = page-at (extentsOf ps) k (mappedPage 0 0) (omega (arith, pages-sum ps)) ∙ ap (λ (l : List MappedPage). pageOf l k) (extents-expand ps)
+pub pages-back : (ps : List MappedPage) (k : ℕ) → k < length ps → pageAt (extentsOf ps) k ≡ nthPage ps k
+pages-back ps k h = page-at (extentsOf ps) k (mappedPage 0 0) (omega (arith, pages-sum ps)) ∙ ap (λ (l : List MappedPage). nthPage l k) (extents-expand ps)

@@ -1,16 +1,16 @@
 -- A map of pages that a map can hold is read back.
 use mathlib.Core.Path.{_≡_, refl, sym, ap, _∙_}
 use mathlib.Core.List.{List, [], _∷_, _++_, append-assoc, append-nil}
-use mathlib.Core.Bool.{Bool, true, false, not, _&&_, _||_}
+use mathlib.Core.Bool.{Bool, true, false, not, _&&_}
 use Prim.Native.Nat.{ℕ, zero, suc, _+_, _-_, _^_, _<_, _≤_}
 use native.Mathlib.Omega.{arith}
-use lib.Dec.{eqb, ltb, leb}
+use lib.Dec.{ltb}
 use lib.ListN.{length, take, drop, length-append, length-drop, take-append-drop}
 use lib.Seq.{drop-at, drop-drop, length-take-le}
-use borrow.Author.Tests.{lt-ltb, le-ltb, le-leb, lt-leb, leb-true, eq-eqb, ne-eqb}
-use Rattle.base.specs.Notation.{if_then_else_, within}
+use borrow.Author.Tests.{eq-eqb, ne-eqb}
+use Rattle.base.specs.Notation.{if_then_else_}
 use Rattle.base.proofs.Codes.{code-small}
-use Rattle.varint.specs.Reader.{Read, got, bad, Reader, return}
+use Rattle.varint.specs.Reader.{got, Reader, return}
 use Rattle.varint.specs.Groups.{encode, number}
 use Rattle.varint.specs.Edition.{editionFields}
 use Rattle.varint.proofs.Forms.{round-trip}
@@ -18,7 +18,7 @@ use Rattle.varint.proofs.Fields.{field-small}
 use Rattle.varint.proofs.Writing.{encode-length}
 use Rattle.map_format.specs.Extents.{hasFilePage, pageAfter, extent, noExtent, joins, joined, extentsOf, extentPages}
 use Rattle.map_format.specs.Layout.{headerBytes, extentBytes, extentsBytes, mapBytes}
-use Rattle.map_format.specs.Reading.{inHalf, headerFields, firstFrom, sound, extentFrom, extentsFrom, Map, mapFields}
+use Rattle.map_format.specs.Reading.{inHalf, headerFields, firstFrom, sound, extentFrom, extentsFrom, mapFields}
 use Rattle.map_format.specs.declared.Extent.{Extent}
 use Rattle.map_format.specs.declared.Header.{Header}
 use Rattle.map_format.specs.declared.MappedPage.{MappedPage}

@@ -1,12 +1,10 @@
 -- What each function of the builder shows at its returns.
-use mathlib.Core.Path.{_≡_, refl, sym, ap, _∙_}
-use mathlib.Core.List.{List, [], _∷_, _++_, append-nil}
-use mathlib.Core.Bool.{Bool, true, false, _&&_, _||_}
-use Prim.Native.Nat.{ℕ, zero, suc, _+_, _<_, _≤_}
+use mathlib.Core.Path.{_≡_, sym, ap, _∙_}
+use mathlib.Core.List.{List, [], _∷_, append-nil}
+use mathlib.Core.Bool.{Bool, true, false, _||_}
+use Prim.Native.Nat.{ℕ, _+_, _<_, _≤_}
 use native.Mathlib.Omega.{arith}
 use lib.Dec.{eqb}
-use lib.ListN.{length}
-use lib.Seq.{sets}
 use borrow.Author.Tests.{eq-eqb, ne-eqb}
 use Rattle.base.specs.Notation.{if_then_else_}
 use Rattle.base.specs.Overlay.{Wrote}
@@ -15,7 +13,7 @@ use Rattle.varint.specs.Groups.{encode}
 use Rattle.varint.proofs.Writing.{encode-length}
 use Rattle.map_format.specs.Extents.{hasFilePage, pageAfter}
 use Rattle.map_format.specs.Layout.{headerBytes, extentBytes}
-use Rattle.map_format.specs.Build.{openExtent, openBytes, followsOf, afterPage, writtenFor, afterPages, writtenForAll, PagesTaken}
+use Rattle.map_format.specs.Build.{openExtent, openBytes, followsOf, afterPage, writtenFor, PagesTaken}
 use Rattle.map_format.specs.declared.Builder.{Builder}
 use Rattle.map_format.specs.declared.Extent.{Extent}
 use Rattle.map_format.specs.declared.Header.{Header}

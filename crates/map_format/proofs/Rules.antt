@@ -1,11 +1,10 @@
 -- The rules of an extent, test by test.
 use mathlib.Core.Path.{_≡_, refl, sym, _∙_}
 use mathlib.Core.Bool.{Bool, true, false, not, _&&_, _||_}
-use Prim.Native.Nat.{ℕ, zero, suc, _+_, _-_, _^_, _<_, _≤_}
+use Prim.Native.Nat.{ℕ, _+_, _^_, _<_, _≤_}
 use native.Mathlib.Omega.{arith}
-use lib.Dec.{ltb, leb, eqb}
+use lib.Dec.{ltb, eqb}
 use borrow.Author.Tests.{lt-ltb, le-ltb, le-leb, lt-leb, eq-eqb, ne-eqb}
-use Rattle.base.specs.Notation.{if_then_else_}
 use Rattle.base.specs.Codes.{isCode}
 use Rattle.base.specs.declared.Refusal.the-variants.{BadExtent}
 use Rattle.map_format.specs.Extents.{hasFilePage, pageAfter, joins}

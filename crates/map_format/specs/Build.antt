@@ -1,6 +1,6 @@
 -- 01 "Maps": the builder takes one page at a time and hands itself back.
 use mathlib.Core.Path.{_≡_}
-use mathlib.Core.Bool.{Bool, true, false}
+use mathlib.Core.Bool.{Bool, false}
 use mathlib.Core.List.{List, [], _∷_, _++_}
 use Prim.Native.Nat.{ℕ, _+_, _*_, _^_, _<_}
 use lib.Dec.{eqb}
@@ -12,10 +12,6 @@ use Rattle.map_format.specs.Layout.{extentBytes}
 use Rattle.map_format.specs.declared.Builder.{Builder}
 use Rattle.map_format.specs.declared.Extent.{Extent}
 use Rattle.map_format.specs.declared.MappedPage.{MappedPage}
-
--- no extent is open, and the first will stand at `at`
-abbrev pub emptyAt : ℕ → Builder
-emptyAt at = record { at = at; code = 0; pages = 0; first = 0 }
 
 abbrev pub openExtent : Builder → Extent
 openExtent b = extent (b .code) (b .pages) (b .first)

@@ -1,12 +1,12 @@
 -- 01 "Maps": reading a map from left to right, where the first fault wins.
 use Prim.Native.Nat.{ℕ, zero, suc, _+_, _-_, _^_}
-use mathlib.Core.Bool.{Bool, true, false, not, _&&_, _||_}
+use mathlib.Core.Bool.{Bool, not, _&&_, _||_}
 use mathlib.Core.List.{List, [], _∷_}
 use lib.Dec.{ltb, leb, eqb}
 use Rattle.base.specs.Notation.{if_then_else_, within}
 use Rattle.base.specs.Codes.{isCode}
 use Rattle.base.specs.declared.Refusal.the-variants.{OutOfLimits, BadExtent}
-use Rattle.varint.specs.Reader.{Read, got, bad, Reader, after, _>>=_, _>>_, return, need, ended}
+use Rattle.varint.specs.Reader.{Reader, _>>=_, _>>_, return, need, ended}
 use Rattle.varint.specs.Groups.{number}
 use Rattle.varint.specs.Edition.{editionFields}
 use Rattle.entry.specs.Pages.{virtualPage}

@@ -1,21 +1,17 @@
 -- Writing a map page by page, and what the map call makes of it.
-use mathlib.Core.Path.{_≡_, refl, sym, ap, _∙_}
+use mathlib.Core.Path.{_≡_, refl, ap, _∙_}
 use mathlib.Core.Bool.{true}
-use mathlib.Core.List.{List, [], _∷_, _++_, append-assoc}
+use mathlib.Core.List.{List, [], _∷_, _++_}
 use Prim.Native.Nat.{ℕ, zero, suc, _+_, _-_, _*_, _/_, _^_, _≤_, _<_}
 use native.Mathlib.Omega.{arith}
-use lib.ListN.{length, length-append}
+use lib.ListN.{length}
 use lib.Seq.{sets, length-sets}
 use borrow.Author.Tests.{lt-ltb, le-ltb}
-use Rattle.base.specs.Notation.{bits}
 use Rattle.base.specs.Codes.{isCode}
 use Rattle.base.specs.declared.Refusal.the-variants.{MapBufferShort}
 use Rattle.base.proofs.Codes.{code-small}
 use Rattle.base.proofs.Overlay.{sets-none}
-use Rattle.entry.specs.Pages.{virtualPageOf}
-use Rattle.varint.specs.Groups.{encode}
 use Rattle.base.specs.Overlay.{Wrote}
-use Rattle.varint.proofs.Writing.{encode-length}
 use Rattle.base.proofs.Overlay.{wrote-then}
 use Rattle.walk.specs.Walk.{World, resolveOf}
 use Rattle.walk.specs.Rows.{resolvedOf}
@@ -28,11 +24,11 @@ use Rattle.address.specs.Address.{placeAnswer}
 use Rattle.address.specs.declared.Answer.{Answer}
 use Rattle.map_format.specs.Extents.{mappedPage, extentsOf}
 use Rattle.map_format.specs.Layout.{headerBytes, extentsBytes, mapBytes}
-use Rattle.map_format.specs.Build.{emptyAt, openBytes, PagesTaken, RoomFor}
+use Rattle.map_format.specs.Build.{openBytes, PagesTaken, RoomFor}
 use Rattle.map_format.specs.declared.Builder.{Builder}
 use Rattle.map_format.specs.declared.MappedPage.{MappedPage}
 use Rattle.map_format.proofs.Answers.{Mappable}
-use Rattle.map_format.proofs.Building.{taken-none, taken-then, taken-finish, header-length, room-empty, room-less, room-pushed}
+use Rattle.map_format.proofs.Building.{emptyAt, taken-none, taken-then, taken-finish, header-length, room-empty, room-less, room-pushed}
 use Rattle.maps.specs.MapOf.{mappedPageOf, pagesOf, headerOf, mapOf, allowed, mapInWorld}
 use Rattle.base.specs.declared.Written.{Written}
 use Rattle.base.specs.Written.{notWritten}

@@ -1,13 +1,13 @@
 -- Allowed ranges: the tests of the code, and what holds of every address of the range.
 use mathlib.Core.Path.{_≡_, refl, sym, _∙_}
 use mathlib.Core.Bool.{Bool, true, false, _&&_, _||_}
-use Prim.Native.Nat.{ℕ, zero, suc, _+_, _-_, _*_, _/_, _%_, _^_, _≤_, _<_}
+use Prim.Native.Nat.{ℕ, _+_, _-_, _*_, _/_, _%_, _^_, _≤_, _<_}
 use native.Mathlib.Omega.{arith}
 use lib.Dec.{eqb, leb}
 use borrow.Author.Tests.{lt-ltb, le-ltb, le-leb, lt-leb, leb-true, leb-false, eq-eqb, ne-eqb, eqb-true}
 use Rattle.base.specs.Notation.{bits, within}
 use Rattle.base.proofs.Test.{Test, test, below, above, both-true}
-use Rattle.entry.specs.Addresses.{canonical, reachable}
+use Rattle.entry.specs.Addresses.{reachable}
 use Rattle.map_format.specs.Reading.{inHalf}
 use Rattle.maps.specs.MapOf.{allowed}
 

@@ -34,7 +34,7 @@ use Rattle.map_format.specs.Reading.{mapFields}
 use Rattle.map_format.specs.Extents.{hasFilePage, extentsOf, pageAt}
 use Rattle.map_format.specs.declared.Extent.{Extent}
 use Rattle.map_format.specs.declared.MappedPage.{MappedPage}
-use Rattle.map_format.proofs.Answers.{pageOf, ZeroWithoutFile, SameAnswer, AllMappable}
+use Rattle.map_format.proofs.Answers.{nthPage, ZeroWithoutFile, SameAnswer, AllMappable}
 use Rattle.map_format.proofs.Pages.{pages-back}
 use Rattle.map_format.proofs.Fewest.{fewest}
 use Rattle.map_format.proofs.ReadBack.{reads-back}
@@ -48,7 +48,7 @@ use Rattle.maps.proofs.Ranges.{Allowed, allowed-range, in-range, start-
 use Rattle.maps.proofs.Mapping.{mappable, pages-long}
 
 -- page k of the pages
-nth-page : (n : ℕ) (w : World) (a k : ℕ) → k < n → pageOf (pagesOf n w a) k ≡ mappedPageOf (resolveOf 3 w (a + 4096 * k) .place)
+nth-page : (n : ℕ) (w : World) (a k : ℕ) → k < n → nthPage (pagesOf n w a) k ≡ mappedPageOf (resolveOf 3 w (a + 4096 * k) .place)
 unfolding pagesOf
 nth-page zero w a k h = absurd (omega arith)
 nth-page (suc n) w a zero h =
@@ -103,7 +103,7 @@ module _ (w : World) (sound : Sound w) (small : length (w .image) ≤ 2 ^ 48) (s
 
   -- ---- the map answers as the walk does
 
-  page-of : (a : ℕ) → start ≤ a → a < start + 4096 * count → answerAt a (pageOf pages ((a - start) / 4096)) ≡ walkAnswer w a
+  page-of : (a : ℕ) → start ≤ a → a < start + 4096 * count → answerAt a (nthPage pages ((a - start) / 4096)) ≡ walkAnswer w a
   page-of a l u =
       let k = (a - start) / 4096 in
       let b = start + 4096 * k in
@@ -111,7 +111,7 @@ module _ (w : World) (sound : Sound w) (small : length (w .image) ≤ 2 ^ 48) (s
       let hk : k < count = omega arith in
       let hb : b % 4096 ≡ 0 = omega (arith, q .aligned) in
       let here : b + o ≡ a = omega (arith, q .aligned) in
-      let at : pageOf pages k ≡ mappedPageOf (resolveOf 3 w b .place) = nth-page count w start k hk in
+      let at : nthPage pages k ≡ mappedPageOf (resolveOf 3 w b .place) = nth-page count w start k hk in
       let move : resolveOf 3 w a .place ≡ moved o (resolveOf 3 w b .place) = ap (λ (x : ℕ). resolveOf 3 w x .place) (sym here) ∙ ap (λ v. v .place) (same-page w b o hb (omega arith) 3) in
       ap (answerAt a) at
       ∙ ap (λ (x : ℕ). answerAt x (mappedPageOf (resolveOf 3 w b .place))) (sym here)
@@ -148,7 +148,7 @@ module _ (w : World) (sound : Sound w) (small : length (w .image) ≤ 2 ^ 48) (s
   fewest-extents : (es : List Extent) → AnswersAsWalk w start count es → length (extentsOf pages) ≤ length es
   fewest-extents es s = fewest pages es (zero-files pages holds) (record { lengths = s .lengths; sum = s .sum ∙ sym (pages-long count w start); answers = each })
     where
-      each : (k : ℕ) → k < length pages → SameAnswer (pageAt es k) (pageOf pages k)
+      each : (k : ℕ) → k < length pages → SameAnswer (pageAt es k) (nthPage pages k)
       each k h =
           let hk : k < count = omega (arith, pages-long count w start) in
           let a = start + 4096 * k in

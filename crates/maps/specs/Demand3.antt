@@ -1,5 +1,5 @@
 -- Demand 3, for an accepted case with the world w, an allowed range and a lent buffer.
-use Prim.Native.Nat.{ℕ, zero, _+_, _*_, _/_, _-_, _≤_, _<_}
+use Prim.Native.Nat.{ℕ, _+_, _*_, _/_, _-_, _≤_, _<_}
 use mathlib.Core.Path.{_≡_}
 use mathlib.Core.Bool.{true}
 use mathlib.Core.List.{List}

@@ -1,9 +1,7 @@
 -- 01 "Case sheet", "Maps": a sheet and a map open with edition 1 and two fields.
-use Prim.Native.Nat.{ℕ}
 use lib.Dec.{eqb}
-use Rattle.base.specs.Notation.{if_then_else_}
 use Rattle.base.specs.declared.Refusal.the-variants.{OutOfLimits}
-use Rattle.varint.specs.Reader.{Read, got, bad, Reader, after, _>>=_, _>>_, return, need}
+use Rattle.varint.specs.Reader.{Read, got, bad, Reader, _>>=_, _>>_, return, need}
 use Rattle.varint.specs.Groups.{number}
 use Rattle.varint.specs.declared.EditionFields.{EditionFields}
 use Rattle.varint.specs.declared.EditionRead.{EditionRead}
