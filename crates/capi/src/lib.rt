@@ -9,7 +9,7 @@ ghost use Rattle.address.specs.Address.{AddressAnswer};
 ghost use Rattle.address.specs.Page.{PageAnswer, partBytes, pageBytes};
 ghost use Rattle.reading.specs.Read.{ReadAnswer};
 ghost use Rattle.lookup.specs.Call.{lookupOf};
-ghost use Rattle.maps.specs.Demand3.{MapAnswer};
+ghost use Rattle.maps.specs.Call.{MapAnswer};
 ghost use Rattle.processor_block.specs.Block.{BlockAnswer};
 ghost use Rattle.process_list.specs.Exact.{ListAnswer};
 

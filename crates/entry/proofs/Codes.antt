@@ -69,7 +69,11 @@ unfolding upperOf isCode
 upper-coded l e = go (not (valid e)) (l .region) (wide e) (bit e 7) (l .large)
   where
     go : (a b c d : Bool) (s : PageSize)
-        → UpperCoded (if a then (if b then UpperNeedsRegion else Ends (Refuses UpperEntryNotValid)) else if c then Ends (Refuses FrameTooWide) else if d then largeOf s (frameOf e) else Table (frameOf e))
+        → UpperCoded (
+        if a then (if b then UpperNeedsRegion else Ends (Refuses UpperEntryNotValid)) else
+        if c then Ends (Refuses FrameTooWide) else
+        if d then largeOf s (frameOf e) else
+        Table (frameOf e))
     go true true c d s = tt
     go true false c d s = refl
     go false b true d s = refl
@@ -106,7 +110,13 @@ leaf-coded e = go (valid e) (transition e) (prototype e && eqb (bits e 16 63) 0x
     small = omega arith
 
     go : (a b c d f : Bool)
-        → LeafCoded (if a then Settled (validOf e) else if b then Settled (transitionOf e) else if c then NeedsRegion else if d then Prototype (extended (bits e 16 63)) else if f then NeedsRegion else Settled (softwareOf e))
+        → LeafCoded (
+        if a then Settled (validOf e) else
+        if b then Settled (transitionOf e) else
+        if c then NeedsRegion else
+        if d then Prototype (extended (bits e 16 63)) else
+        if f then NeedsRegion else
+        Settled (softwareOf e))
     go true b c d f = valid-coded e
     go false true c d f = tt
     go false false true d f = tt

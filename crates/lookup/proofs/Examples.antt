@@ -35,7 +35,7 @@ answer : List ℕ → ℕ → ℕ
 answer bytes a = lookupOf bytes a .number
 
 -- an address that is not canonical, in a damaged map and in a sound one; neighbours that belong together; the end where the first page is awaited;
--- an extent behind the last page; codes 20 and 30; a length of 0; a sum past the count; first page plus length past 2^36; no page; a range past its half; edition 2
+-- an extent after the last page; codes 20 and 30; a length of 0; a sum past the count; first page plus length past 2^36; no page; a range past its half; edition 2
 pub orders : List Example
 orders =
     same (answer (0x01 ∷ 0x00 ∷ 0x02 ∷ 0x03 ∷ 0x01 ∷ 0x03 ∷ 0x01 ∷ []) 0x0000800000000000) 43

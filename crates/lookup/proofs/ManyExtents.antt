@@ -85,7 +85,8 @@ note-below old done k left e q h = go (test k done) (test (k - done) (e .pages))
 -- ---- the steps of the reader
 
 module _ (n left : ℕ) (prev : Extent) (s : List ℕ) (at : ℕ) where
-  read-more : (left ≡ 0 → ⊥) → (e : Extent) (next : ℕ) → extentFrom left prev s at ≡ got e next → extentsFrom (suc n) left prev s at ≡ after s (λ (es : List Extent). return (e ∷ es)) (extentsFrom n (left - e .pages) e s next)
+  read-more : (left ≡ 0 → ⊥) → (e : Extent) (next : ℕ) → extentFrom left prev s at ≡ got e next
+      → extentsFrom (suc n) left prev s at ≡ after s (λ (es : List Extent). return (e ∷ es)) (extentsFrom n (left - e .pages) e s next)
   unfolding extentsFrom
   read-more h e next w = rw (ne-eqb left 0 h, w)
 

@@ -54,7 +54,10 @@ taken-append b (p ∷ ps) qs = taken-append (afterPage b p) ps qs
 
 bytes-append : (b : Builder) (ps qs : List MappedPage) → writtenForAll b (ps ++ qs) ≡ writtenForAll b ps ++ writtenForAll (afterPages b ps) qs
 bytes-append b [] qs = refl
-bytes-append b (p ∷ ps) qs = ap (λ (l : List ℕ). writtenFor b p ++ l) (bytes-append (afterPage b p) ps qs) ∙ sym (append-assoc (writtenFor b p) (writtenForAll (afterPage b p) ps) (writtenForAll (afterPages (afterPage b p) ps) qs))
+bytes-append b (p ∷ ps) qs =
+    let next = afterPage b p in
+    ap (λ (l : List ℕ). writtenFor b p ++ l) (bytes-append next ps qs)
+    ∙ sym (append-assoc (writtenFor b p) (writtenForAll next ps) (writtenForAll (afterPages next ps) qs))
 
 pub taken-none : (o : List ℕ) (b : Builder) → PagesTaken o b [] o b
 taken-none o b = record { state = refl; bytes = refl }
@@ -120,7 +123,8 @@ whole-extents [] at = refl
 whole-extents (p ∷ ps) at = whole-open ps (record { at = at + 0; code = p .code; pages = 1; first = p .file }) (omega arith)
 
 -- all pages afterPages to an empty builder, and its last extent written
-pub taken-finish : {o o′ o″ : List ℕ} {at r : ℕ} {b : Builder} {ps : List MappedPage} → PagesTaken o (emptyAt at) ps o′ b → Wrote o′ (b .at) (openBytes b) r o″ → Wrote o at (extentsBytes (extentsOf ps)) r o″
+pub taken-finish : {o o′ o″ : List ℕ} {at r : ℕ} {b : Builder} {ps : List MappedPage}
+    → PagesTaken o (emptyAt at) ps o′ b → Wrote o′ (b .at) (openBytes b) r o″ → Wrote o at (extentsBytes (extentsOf ps)) r o″
 taken-finish {o} {o′} {o″} {at} {r} {b} {ps} p w =
     let first : Wrote o at (writtenForAll (emptyAt at) ps) (afterPages (emptyAt at) ps .at) o′ = record { place = taken-place (emptyAt at) ps; bytes = p .bytes } in
     let last : Wrote o′ (afterPages (emptyAt at) ps .at) (openBytes (afterPages (emptyAt at) ps)) r o″ = rw (p .state) at w in

@@ -47,7 +47,7 @@ answer-of (bad r) = refusalNumber r
 answer : List ℕ → ℕ
 answer bytes = answer-of (mapFields bytes 0)
 
--- neighbours that belong together; a code that is not isCode, before the end; no pages, and pages past the count, when the last field has been read; a byte behind; 0 pages and edition 2 are 12
+-- neighbours that belong together; a code that is not listed, before the end; no pages, and pages past the count, when the last field has been read; a byte after the last; 0 pages and edition 2 are 12
 pub orders : List Example
 orders =
     same (answer (0x01 ∷ 0x00 ∷ 0x02 ∷ 0x01 ∷ 0x01 ∷ 0x05 ∷ 0x01 ∷ 0x01 ∷ 0x06 ∷ [])) 43

@@ -114,7 +114,8 @@ after-apart e (x ∷ xs) a = rw a (go (ltb 0 (e .pages)))
     go true = refl
     go false = refl
 
-extents-at : (es : List Extent) (k left : ℕ) (prev : Extent) (s : List ℕ) (at : ℕ) (rest : List ℕ) → Chain es → After prev es → extentPages es ≡ left → length es ≤ k → drop at s ≡ extentsBytes es ++ rest
+extents-at : (es : List Extent) (k left : ℕ) (prev : Extent) (s : List ℕ) (at : ℕ) (rest : List ℕ)
+    → Chain es → After prev es → extentPages es ≡ left → length es ≤ k → drop at s ≡ extentsBytes es ++ rest
     → extentsFrom k left prev s at ≡ got es (at + length (extentsBytes es))
 unfolding extentsFrom
 extents-at [] zero left prev s at rest ch a t l d = ap (got []) (omega arith)

@@ -29,7 +29,8 @@ use Rattle.map_format.specs.declared.Builder.{Builder}
 use Rattle.map_format.specs.declared.MappedPage.{MappedPage}
 use Rattle.map_format.proofs.Answers.{Mappable}
 use Rattle.map_format.proofs.Building.{emptyAt, taken-none, taken-then, taken-finish, header-length, room-empty, room-less, room-pushed}
-use Rattle.maps.specs.MapOf.{mappedPageOf, pagesOf, headerOf, mapOf, allowed, mapInWorld}
+use Rattle.maps.specs.MapOf.{allowed, mappedPageOf, pagesOf, headerOf, mapOf}
+use Rattle.maps.specs.Call.{mapInWorld}
 use Rattle.base.specs.declared.Written.{Written}
 use Rattle.base.specs.Written.{notWritten}
 use Rattle.maps.proofs.Ranges.{allowed-range, in-range}
@@ -64,7 +65,8 @@ pub record Mapping (w : World) (start count : ℕ) (old : List ℕ) (b₀ : Buil
   pub taken : PagesTaken old b₀ (pagesOf i w start) out b
   pub room : RoomFor b (count - i)
 
-pub mapping-none : (w : World) (start count : ℕ) {o : List ℕ} (old : List ℕ) (at : ℕ) → count ≤ 2 ^ 20 → Wrote o 0 (headerBytes (headerOf start count)) at old → Mapping w start count old (emptyAt at) 0 old (emptyAt at)
+pub mapping-none : (w : World) (start count : ℕ) {o : List ℕ} (old : List ℕ) (at : ℕ)
+    → count ≤ 2 ^ 20 → Wrote o 0 (headerBytes (headerOf start count)) at old → Mapping w start count old (emptyAt at) 0 old (emptyAt at)
 unfolding pagesOf
 mapping-none w start count old at h q =
     let small : at ≤ 18 = omega (arith, q .place, header-length (headerOf start count)) in
@@ -79,7 +81,8 @@ module _ {w : World} {start count : ℕ} {old : List ℕ} {b₀ : Builder} {i : 
       let r = in-range (allowed-range start count range) (start + 4096 * i) (omega arith) (omega arith) in
       mappable (resolveOf 3 w (start + 4096 * i) .place) (resolve-coded w sound small 3 (start + 4096 * i) (r .reaches))
 
-  pub mapping-next : Sound w → length (w .image) ≤ 2 ^ 48 → allowed start count ≡ true → i < count → (v : Resolved) → v ≡ resolvedOf (resolveOf 3 w (start + 4096 * i)) → (a : Answer) → a ≡ placeAnswer (v .place) (v .entries)
+  pub mapping-next : Sound w → length (w .image) ≤ 2 ^ 48 → allowed start count ≡ true → i < count
+      → (v : Resolved) → v ≡ resolvedOf (resolveOf 3 w (start + 4096 * i)) → (a : Answer) → a ≡ placeAnswer (v .place) (v .entries)
       → (new : List ℕ) (b′ : Builder) → PagesTaken out b (mappedPage (a .number) (a .offset / 4096) ∷ []) new b′ → Mapping w start count old b₀ (i + 1) new b′
   mapping-next sound small range h v e a f new b′ p =
       let same-place : v .place ≡ resolveOf 3 w (start + 4096 * i) .place = ap (λ (z : Resolved). z .place) e in
@@ -90,13 +93,14 @@ module _ {w : World} {start count : ℕ} {old : List ℕ} {b₀ : Builder} {i : 
       record {
         within = omega arith;
         taken = rw (pages-next i w start) (taken-then (q .taken) p′);
-        room = room-pushed (count - (i + 1)) (omega (arith, code-small (mappedPageOf (resolveOf 3 w (start + 4096 * i) .place) .code) (holds .code))) (omega (arith, holds .file)) (rw k at (q .room)) p′;
+        room = room-pushed (count - (i + 1)) (omega (arith, code-small _ (holds .code))) (omega (arith, holds .file)) (rw k at (q .room)) p′;
       }
 
   pub mapping-end : count ≤ i → RoomFor b 0
   mapping-end h = room-less 0 (omega arith) (q .room)
 
-pub map-written : {w : World} {start count : ℕ} {o old out new : List ℕ} {at i r : ℕ} {b : Builder} → Wrote o 0 (headerBytes (headerOf start count)) at old → Mapping w start count old (emptyAt at) i out b → count ≤ i
+pub map-written : {w : World} {start count : ℕ} {o old out new : List ℕ} {at i r : ℕ} {b : Builder}
+    → Wrote o 0 (headerBytes (headerOf start count)) at old → Mapping w start count old (emptyAt at) i out b → count ≤ i
     → Wrote out (b .at) (openBytes b) r new → Wrote o 0 (mapOf w start count) r new
 unfolding mapOf mapBytes
 map-written {w} {start} {count} {o} {old} {out} {new} {at} {i} {r} {b} p q h f =
@@ -118,7 +122,8 @@ module _ (w : World) (start count : ℕ) (old last : List ℕ) (r : ℕ) (p : Wr
       let l : length old < length (mapOf w start count) = omega (arith, p .place, rw nothing at h) in
       rw (g, nothing, lt-ltb (length old) (length (mapOf w start count)) l)
 
-  pub full-map : r ≤ length (last ++ old) → (r₂ : ℕ) (new : List ℕ) → Wrote (last ++ old) 0 (mapOf w start count) r₂ new → record { answer = record { number = 0; length = r }; buffer = new } ≡ mapInWorld w start count old
+  pub full-map : r ≤ length (last ++ old) → (r₂ : ℕ) (new : List ℕ) → Wrote (last ++ old) 0 (mapOf w start count) r₂ new
+      → record { answer = record { number = 0; length = r }; buffer = new } ≡ mapInWorld w start count old
   full-map h r₂ new q =
       let l : length (mapOf w start count) ≤ length old = omega (arith, p .place, rw nothing at h) in
       let e : r ≡ length (mapOf w start count) = omega (arith, p .place) in

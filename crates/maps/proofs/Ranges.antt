@@ -76,7 +76,8 @@ pub record Allowed (start count : ℕ) : Type 0 where
   pub most : count ≤ 2 ^ 20
   pub half : Half start count
 
-half-of : (start count : ℕ) (a b c : Bool) → leb (start + 4096 * count) (2 ^ 47) ≡ a → leb (2 ^ 64 - 2 ^ 47) start ≡ b → leb (start + 4096 * count) (2 ^ 64) ≡ c → (a || (b && c)) ≡ true → Half start count
+half-of : (start count : ℕ) (a b c : Bool)
+    → leb (start + 4096 * count) (2 ^ 47) ≡ a → leb (2 ^ 64 - 2 ^ 47) start ≡ b → leb (start + 4096 * count) (2 ^ 64) ≡ c → (a || (b && c)) ≡ true → Half start count
 half-of start count true b c ea eb ec e = low (leb-true (start + 4096 * count) (2 ^ 47) ea)
 half-of start count false true true ea eb ec e = high (leb-true (2 ^ 64 - 2 ^ 47) start eb) (leb-true (start + 4096 * count) (2 ^ 64) ec)
 half-of start count false true false ea eb ec e = absurd (let z : _≡_ {A = ℕ} 0 1 = cc in omega arith)
@@ -158,5 +159,15 @@ module _ {start count : ℕ} (q : Allowed start count) where
   start-in-half = go (q .half)
     where
       go : Half start count → inHalf (bits start 12 47) count ≡ true
-      go (low h) = rw (le-leb 1 count (q .some), le-leb count (2 ^ 20) (q .most), lt-ltb (bits start 12 47) (2 ^ 35) (omega (arith, q .some)), le-leb (bits start 12 47 + count) (2 ^ 35) (omega (arith, q .aligned)))
-      go (high g h) = rw (le-leb 1 count (q .some), le-leb count (2 ^ 20) (q .most), le-ltb (bits start 12 47) (2 ^ 35) (omega (arith, q .some)), le-leb (bits start 12 47 + count) (2 ^ 36) (omega (arith, q .aligned)))
+      go (low h) = rw (
+        le-leb 1 count (q .some),
+        le-leb count (2 ^ 20) (q .most),
+        lt-ltb (bits start 12 47) (2 ^ 35) (omega (arith, q .some)),
+        le-leb (bits start 12 47 + count) (2 ^ 35) (omega (arith, q .aligned)),
+      )
+      go (high g h) = rw (
+        le-leb 1 count (q .some),
+        le-leb count (2 ^ 20) (q .most),
+        le-ltb (bits start 12 47) (2 ^ 35) (omega (arith, q .some)),
+        le-leb (bits start 12 47 + count) (2 ^ 36) (omega (arith, q .aligned)),
+      )

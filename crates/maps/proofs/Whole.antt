@@ -40,8 +40,9 @@ use Rattle.map_format.proofs.Fewest.{fewest}
 use Rattle.map_format.proofs.ReadBack.{reads-back}
 use Rattle.lookup.specs.Call.{answerAt, lookupOf}
 use Rattle.lookup.specs.declared.Found.{Found}
-use Rattle.maps.specs.MapOf.{mappedPageOf, pagesOf, headerOf, mapOf, allowed, mapInWorld, mapCall}
-use Rattle.maps.specs.Demand3.{walkAnswer, AnswersAsWalk, Fewest, Demand3, MapAnswer}
+use Rattle.maps.specs.MapOf.{allowed, mappedPageOf, pagesOf, headerOf, mapOf}
+use Rattle.maps.specs.Demand3.{walkAnswer, AnswersAsWalk, Fewest, Demand3}
+use Rattle.maps.specs.Call.{mapInWorld, mapCall, MapAnswer}
 use Rattle.base.specs.declared.Written.{Written}
 use Rattle.base.specs.Written.{notWritten, written}
 use Rattle.maps.proofs.Ranges.{Allowed, allowed-range, in-range, start-in-half}
@@ -183,7 +184,8 @@ module _ (w : World) (sound : Sound w) (small : length (w .image) ≤ 2 ^ 48) (s
         take-at (mapOf w start count) (drop (0 + length (mapOf w start count)) old) (length (mapOf w start count)) refl,
       )
 
-      least : Test (length old) (length (mapOf w start count)) → mapInWorld w start count old .answer .number ≡ 0 → Fewest w start count (mapFields (take (mapInWorld w start count old .answer .length) (mapInWorld w start count old .buffer)) 0)
+      least : Test (length old) (length (mapOf w start count)) → mapInWorld w start count old .answer .number ≡ 0
+          → Fewest w start count (mapFields (take (mapInWorld w start count old .answer .length) (mapInWorld w start count old .buffer)) 0)
       least (below h) e = refused h e
       least (above h) e = subst (λ (bs : List ℕ). Fewest w start count (mapFields bs 0)) (sym (front h)) map-fewest
 

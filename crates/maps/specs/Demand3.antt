@@ -1,25 +1,19 @@
 -- Demand 3, for an accepted case with the world w, an allowed range and a lent buffer.
 use Prim.Native.Nat.{ℕ, _+_, _*_, _/_, _-_, _≤_, _<_}
 use mathlib.Core.Path.{_≡_}
-use mathlib.Core.Bool.{true}
 use mathlib.Core.List.{List}
 use lib.ListN.{length, take}
 use Rattle.base.specs.Refusal.{refusalNumber}
 use Rattle.base.specs.Written.{WriteOutcome}
-use Rattle.base.specs.declared.Written.{Written}
 use Rattle.base.specs.declared.Refusal.the-variants.{MapBufferShort}
 use Rattle.walk.specs.Walk.{World, resolveOf, numberOf, offsetOf}
 use Rattle.map_format.specs.Extents.{pageAt, extentPages, Lengths}
 use Rattle.map_format.specs.declared.Extent.{Extent}
 use Rattle.lookup.specs.Call.{answerAt, lookupOf}
 use Rattle.lookup.specs.declared.Found.{Found}
-use Rattle.sheet.specs.Sheet.{Check, accepted, refused}
-use Rattle.walk.specs.Walk.{worldOf}
-use Rattle.address.specs.Case.{checkOf}
-use Rattle.address.specs.Address.{GroundedIn}
 use Rattle.varint.specs.Reader.{Read, got, bad}
 use Rattle.map_format.specs.Reading.{Map, mapFields}
-use Rattle.maps.specs.MapOf.{mapOf, allowed, mapCall}
+use Rattle.maps.specs.MapOf.{mapOf}
 
 -- the page walk's answer: number and offset, as the address call hands them back
 abbrev pub walkAnswer : World → ℕ → Found
@@ -44,14 +38,3 @@ pub record Demand3 (w : World) (start count : ℕ) (old : List ℕ) (out : Write
   pub answers : out .answer .number ≡ 0 → (a : ℕ) → start ≤ a → a < start + 4096 * count → lookupOf (take (out .answer .length) (out .buffer)) a ≡ walkAnswer w a
   -- they are a map, and no list of extents that answers so is shorter than it
   pub fewest : out .answer .number ≡ 0 → Fewest w start count (mapFields (take (out .answer .length) (out .buffer)) 0)
-
--- for every accepted case and allowed range
-abbrev pub Demand3In : List ℕ → List ℕ → ℕ → ℕ → List ℕ → WriteOutcome → Check → Type 0
-Demand3In image pagefile start count old out (refused r) = Unit {0}
-Demand3In image pagefile start count old out (accepted s) = allowed start count ≡ true → Demand3 (worldOf s image pagefile) start count old out
-
--- the map call's promise: what it hands back, demand 3, and that the walk rests on what the files hold
-pub record MapAnswer (sheet image pagefile : List ℕ) (start count : ℕ) (old : List ℕ) (r : Written) (new : List ℕ) : Type 0 where
-  pub same : record { answer = r; buffer = new } ≡ mapCall sheet image pagefile start count old
-  pub demand3 : Demand3In image pagefile start count old (record { answer = r; buffer = new }) (checkOf sheet image pagefile)
-  pub grounded : (a : ℕ) → GroundedIn image pagefile a (checkOf sheet image pagefile)

@@ -1,2 +1,3 @@
 pub mod MapOf
 pub mod Demand3
+pub mod Call

@@ -13,8 +13,8 @@ ghost use Prim.Native.Nat.{_≤_, _^_};
 ghost use lib.ListN.{length};
 ghost use Rattle.base.specs.Overlay.{Wrote};
 ghost use Rattle.walk.specs.Rows.{worldIn};
-ghost use Rattle.maps.specs.MapOf.{mapOf, allowed, mapInWorld};
-ghost use Rattle.maps.specs.Demand3.{MapAnswer};
+ghost use Rattle.maps.specs.MapOf.{allowed, mapOf};
+ghost use Rattle.maps.specs.Call.{mapInWorld, MapAnswer};
 
 // 01 "What the reader covers": the bytes of a page.
 const PAGE_BYTES: u64 = 0x1000;

@@ -64,8 +64,10 @@ loop-again c =
     let at-test = c .before .before .before .before .before .before .before in
     let start = at-test .before .before .before .before .before .before .before .before .before .before .before in
     let sound = sound-rows (now (start .args .rows)) (start .args .directory) (now (start .args .image)) (now (start .args .pagefile)) in
-    mapping-next (at-test .before .loop .inv) sound (start .pre .1) (start .pre .0) (at-test .loop-test .taken) _ (c .before .before .before .before .before .before .resolve-in .ensures) _ (c .before .before .before .before .before .answer-of .ensures) _ _
-    (c .before .before .push .ensures)
+    let found = c .before .before .before .before .before .before .resolve-in .ensures in
+    let answer = c .before .before .before .before .before .answer-of .ensures in
+    let next = mapping-next (at-test .before .loop .inv) sound (start .pre .1) (start .pre .0) (at-test .loop-test .taken) in
+    next _ found _ answer _ _ (c .before .before .push .ensures)
 
 finish-requires : tie.Need-finish-requires Inv-loop μ-loop
 finish-requires c κs = mapping-end (c .before .before .loop .inv) (c .before .loop-test .left)
