@@ -14,19 +14,17 @@ ghost use Rattle.map_format.specs.Reading.{headerFields, firstFrom, soun
 ghost use Rattle.map_format.specs.Build.{openBytes, followsOf, PagesTaken, RoomFor};
 ghost use Rattle.map_format.specs.Inner.{asHeaderRead, judgedRange, asExtentRead, judgedExtent, FieldsInLimits};
 
-// 01 "Maps": edition 1.
-const EDITION: u64 = 1;
+// 01 "Maps": the most pages of a range.
+pub const MOST_PAGES: u64 = 0x100000;
 
-// 01 "Maps": a range has 1 to 2^20 pages.
-pub const MOST_PAGES: u64 = 0x10_0000;
+// The first virtual page of the upper half.
+const UPPER_HALF: u64 = 0x800000000;
 
-// Virtual pages from 2^35 on are those of the upper half; there are 2^36.
-const UPPER_HALF: u64 = 0x8_0000_0000;
+// 01 "Maps": a range ends at or below this virtual page.
+const VIRTUAL_PAGES: u64 = 0x1000000000;
 
-const VIRTUAL_PAGES: u64 = 0x10_0000_0000;
-
-// 01 "Maps": first page plus length is at most 2^36.
-const FILE_PAGES: u64 = 0x10_0000_0000;
+// 01 "Maps": first page plus length is at most this.
+const FILE_PAGES: u64 = 0x1000000000;
 
 // The answer for a page: its number and, for 1 and 2, the page of the file.
 pub struct MappedPage {
@@ -141,7 +139,7 @@ pub fn write_header(out: &mut [u8], header: Header) -> usize
     requires { ⌜ (header .start .0 < 2 ^ 36) × (header .count < 2 ^ 36) ⌝ }
     ensures { λ r. ⌜ Wrote (now (out .entry)) 0 (headerBytes header) r (now (out .exit)) ⌝ }
 {
-    let a = varint::write_number(out, 0, EDITION);
+    let a = varint::write_number(out, 0, varint::EDITION);
     let b = varint::write_number(out, a, header.start.number());
     varint::write_number(out, b, header.count)
 }

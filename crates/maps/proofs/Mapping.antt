@@ -8,11 +8,12 @@ use lib.ListN.{length}
 use lib.Seq.{sets, length-sets}
 use borrow.Author.Tests.{lt-ltb, le-ltb}
 use Rattle.base.specs.Codes.{isCode}
-use Rattle.base.specs.declared.Refusal.the-variants.{MapBufferShort}
-use Rattle.base.proofs.Codes.{code-small}
-use Rattle.base.proofs.Overlay.{sets-none}
 use Rattle.base.specs.Overlay.{Wrote}
-use Rattle.base.proofs.Overlay.{wrote-then}
+use Rattle.base.specs.Written.{notWritten}
+use Rattle.base.specs.declared.Refusal.the-variants.{MapBufferShort}
+use Rattle.base.specs.declared.Written.{Written}
+use Rattle.base.proofs.Codes.{code-small}
+use Rattle.base.proofs.Overlay.{sets-none, wrote-then}
 use Rattle.walk.specs.Walk.{World, resolveOf}
 use Rattle.walk.specs.Rows.{resolvedOf}
 use Rattle.walk.specs.declared.Resolved.{Resolved}
@@ -31,8 +32,6 @@ use Rattle.map_format.proofs.Answers.{Mappable}
 use Rattle.map_format.proofs.Building.{emptyAt, taken-none, taken-then, taken-finish, header-length, room-empty, room-less, room-pushed}
 use Rattle.maps.specs.MapOf.{allowed, mappedPageOf, pagesOf, headerOf, mapOf}
 use Rattle.maps.specs.Call.{mapInWorld}
-use Rattle.base.specs.declared.Written.{Written}
-use Rattle.base.specs.Written.{notWritten}
 use Rattle.maps.proofs.Ranges.{allowed-range, in-range}
 
 -- an answer whose number is a code can stand in a map

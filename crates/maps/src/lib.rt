@@ -19,12 +19,13 @@ ghost use Rattle.maps.specs.Call.{mapInWorld, MapAnswer};
 // 01 "What the reader covers": the bytes of a page.
 const PAGE_BYTES: u64 = 0x1000;
 
-// 01 "One address": canonical addresses are those below 2^47 and those from 2^64 - 2^47 on.
-const LOWER_HALF_END: u64 = 0x8000_0000_0000;
+// 01 "One address": canonical addresses lie below this one ..
+const LOWER_HALF_END: u64 = 0x800000000000;
 
-const UPPER_HALF: u64 = 0xFFFF_8000_0000_0000;
+// .. or from this one on, up to the top.
+const UPPER_HALF: u64 = 0xFFFF800000000000;
 
-const LAST_ADDRESS: u64 = 0xFFFF_FFFF_FFFF_FFFF;
+const TOP_ADDRESS: u64 = 0xFFFFFFFFFFFFFFFF;
 
 // The map of a range into the lent buffer.
 pub fn map_range(
@@ -106,7 +107,7 @@ fn is_allowed(start: u64, pages: u64) -> bool
         }
         return PAGE_BYTES * pages <= LOWER_HALF_END - start;
     }
-    PAGE_BYTES * pages - 1 <= LAST_ADDRESS - start
+    PAGE_BYTES * pages - 1 <= TOP_ADDRESS - start
 }
 
 // Writes the map, and answers its length; bytes that fall past the buffer's end are counted and not written.
