@@ -18,7 +18,7 @@ ghost use Rattle.map_format.specs.Inner.{asHeaderRead, judgedRange, asEx
 pub const MOST_PAGES: u64 = 0x100000;
 
 // The first virtual page of the upper half.
-const UPPER_HALF: u64 = 0x800000000;
+const UPPER_HALF_PAGE: u64 = 0x800000000;
 
 // 01 "Maps": a range ends at or below this virtual page.
 const VIRTUAL_PAGES: u64 = 0x1000000000;
@@ -181,8 +181,8 @@ fn judge_range(start: u64, count: u64, next: usize) -> HeaderRead
         start: VirtualPage::numbered(start),
         count,
     };
-    if start < UPPER_HALF {
-        if UPPER_HALF < start + count {
+    if start < UPPER_HALF_PAGE {
+        if UPPER_HALF_PAGE < start + count {
             return HeaderRead::Refused(Refusal::OutOfLimits);
         }
         return HeaderRead::Fields(header, next);
