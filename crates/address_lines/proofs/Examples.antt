@@ -3,12 +3,13 @@ use mathlib.Core.Path.{_≡_, refl}
 use mathlib.Core.List.{List, [], _∷_}
 use Prim.Native.Nat.{ℕ}
 use Rattle.base.specs.Example.{Example, same, Hold}
-use Rattle.sheet.specs.Sheet.{Sheet, accepted}
+use Rattle.varint.specs.Reader.{got}
+use Rattle.sheet.specs.Sheet.{Sheet}
 use Rattle.walk.specs.Walk.{resolveOf}
 use Rattle.entry.specs.Addresses.{reachable}
-use Rattle.address.specs.Case.{checkOf}
-use Rattle.address.specs.Address.{addressOf}
-use Rattle.address.specs.declared.Answer.{Answer}
+use Rattle.case.specs.Case.{Case, checkOf}
+use Rattle.address.specs.Call.{addressOf}
+use Rattle.case.specs.declared.Answer.{Answer}
 use Rattle.address_lines.specs.Line.{decimalOf, lineOf}
 
 abbrev answer : ℕ → ℕ → ℕ → Answer
@@ -26,6 +27,6 @@ unfolding lines lineOf decimalOf
 lines-hold = (refl, (refl, tt))
 
 -- `20 0 0`
-pub p4-line : (sheet image pagefile : List ℕ) (s : Sheet) → checkOf sheet image pagefile ≡ accepted s → lineOf (addressOf sheet image pagefile 0x0000800000000000) ≡ 50 ∷ 48 ∷ 32 ∷ 48 ∷ 32 ∷ 48 ∷ 10 ∷ []
+pub p4-line : (c : Case) (s : Sheet) (at : ℕ) → checkOf c ≡ got s at → lineOf (addressOf c 0x0000800000000000) ≡ 50 ∷ 48 ∷ 32 ∷ 48 ∷ 32 ∷ 48 ∷ 10 ∷ []
 unfolding lineOf decimalOf addressOf resolveOf reachable
-p4-line sheet image pagefile s e = rw e
+p4-line c s at e = rw e

@@ -9,7 +9,7 @@ use Rattle.base.proofs.Overlay.{sets-append, sets-next}
 use Rattle.io.specs.Digits.{digits, Fewest}
 use Rattle.base.specs.Overlay.{Wrote}
 use Rattle.base.proofs.Overlay.{wrote-then}
-use Rattle.address.specs.declared.Answer.{Answer}
+use Rattle.case.specs.declared.Answer.{Answer}
 use Rattle.address_lines.specs.Line.{decimalOf, fieldOf, space, newline, lineOf, LineAt}
 use Rattle.address_lines.proofs.Decimal.{fewest-digits}
 
@@ -34,7 +34,7 @@ module _ (out₀ : List ℕ) (at : ℕ) (text out : List ℕ) (i : ℕ) (q : Cop
   pub all-copied : length text ≤ i → out ≡ sets out₀ at text
   all-copied h = q .bytes ∙ ap (sets out₀ at) (take-all i text h)
 
--- ---- a number and the byte behind it
+-- ---- a number and the byte after it
 
 module _ (n k : ℕ) (text : List ℕ) (few : Fewest 10 1 n k) (spelt : take k text ≡ digits 10 k n) (fits : k ≡ length (take k text)) where
   pub decimal-text : take k text ≡ decimalOf n

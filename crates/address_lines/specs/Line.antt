@@ -5,7 +5,7 @@ use mathlib.Core.List.{List, [], _∷_, _++_}
 use lib.Dec.{ltb}
 use lib.ListN.{length, drop}
 use Rattle.base.specs.Notation.{if_then_else_}
-use Rattle.address.specs.declared.Answer.{Answer}
+use Rattle.case.specs.declared.Answer.{Answer}
 
 -- the ASCII code of a digit below 10
 abbrev pub digit : ℕ → ℕ
@@ -22,9 +22,9 @@ decimalIn (suc most) n =
 unfoldable pub decimalOf : ℕ → List ℕ
 decimalOf n = decimalIn n n
 
--- a number in decimal, and the byte behind it
+-- a number in decimal, and the byte after it
 abbrev pub fieldOf : ℕ → ℕ → List ℕ
-fieldOf n behind = decimalOf n ++ behind ∷ []
+fieldOf n end = decimalOf n ++ end ∷ []
 
 abbrev pub space : ℕ
 space = 32

@@ -6,7 +6,8 @@ ghost use Prim.Native.Nat.{_+_, _≤_};
 ghost use lib.ListN.{length, take};
 ghost use lib.Seq.{sets};
 ghost use Rattle.base.specs.Overlay.{Wrote};
-ghost use Rattle.address.specs.Address.{addressOf};
+ghost use Rattle.case.specs.Case.{caseOf};
+ghost use Rattle.address.specs.Call.{addressOf};
 ghost use Rattle.address_lines.specs.Line.{fieldOf, lineOf, LineAt};
 
 // Writes the line of an address and answers its length; three numbers of 20 digits need 63 bytes.
@@ -17,7 +18,7 @@ pub fn write_line(
     address: u64,
     out: &mut [u8; 64],
 ) -> usize
-    ensures { λ r. ⌜ LineAt (lineOf (addressOf (now (sheet .entry)) (now (image .entry)) (now (pagefile .entry)) address)) (now (out .entry)) r (now (out .exit)) ⌝ }
+    ensures { λ r. ⌜ LineAt (lineOf (addressOf (caseOf (now (sheet .entry)) (now (image .entry)) (now (pagefile .entry))) address)) (now (out .entry)) r (now (out .exit)) ⌝ }
 {
     let found = address::resolve_address(sheet, image, pagefile, address);
     let offset_at = put_number(out, 0, found.number, b' ');
@@ -45,17 +46,17 @@ pub fn run() {
 
 // ---- the line
 
-// A number in decimal and the byte behind it; answers the place behind both.
-fn put_number(out: &mut [u8], at: usize, n: u64, behind: u8) -> usize
+// A number in decimal and the byte after it; answers the place after both.
+fn put_number(out: &mut [u8], at: usize, n: u64, last: u8) -> usize
     requires { ⌜ at + 21 ≤ length (now out) ⌝ }
-    ensures { λ r. ⌜ Wrote (now (out .entry)) at (fieldOf n behind) r (now (out .exit)) ⌝ }
+    ensures { λ r. ⌜ Wrote (now (out .entry)) at (fieldOf n last) r (now (out .exit)) ⌝ }
     ensures { λ r. ⌜ r ≤ at + 21 ⌝ }
 {
     let mut text = [0u8; 20];
     let digits = io::decimal(n, &mut text);
     copy(out, at, &text[..digits]);
     let end = at + digits;
-    out[end] = behind;
+    out[end] = last;
     end + 1
 }
 
@@ -86,7 +87,7 @@ struct Loaded {
     end: usize,
 }
 
-// The files that the three arguments name, one behind another.
+// The files that the three arguments name, one after another.
 fn load_all(buf: &mut [u8]) -> Files
     ensures { λ r. ⌜ (r .image ≤ r .pagefile) × (r .pagefile ≤ r .end) × (r .end ≤ length (now (buf .entry))) ⌝ }
 {

@@ -1,5 +1,6 @@
 // The walk on a parsed case, exported for the benchmark alone.
 use entry::Frame;
+use sheet::AddressSpace;
 use walk::Place;
 
 // The sum of the image offsets of consecutive pages, modulo 2^64: one call that walks many pages.
@@ -32,7 +33,10 @@ pub extern "C" fn bench_walk_one(
     directory: u64,
     address: u64,
 ) -> u64 {
-    let found = walk::resolve_in(rows, image, pagefile, Frame::numbered(directory), address);
+    let space = AddressSpace {
+        directory: Frame::numbered(directory),
+    };
+    let found = walk::resolve_in(rows, image, pagefile, space, address);
     let place = found.place;
     match place {
         Place::Image(o) => o,

@@ -1,21 +1,22 @@
 // The exported calls: each hands on the call of the same meaning, with its whole contract.
-use address::Answer;
 use address::Part;
 use base::Written;
+use case::Answer;
 use lookup::Found;
 use reading::BytesRead;
 ghost use mathlib.Core.Path.{_≡_};
-ghost use Rattle.address.specs.Address.{AddressAnswer};
-ghost use Rattle.address.specs.Page.{PageAnswer, partBytes, pageBytes};
-ghost use Rattle.reading.specs.Read.{ReadAnswer};
+ghost use Rattle.case.specs.Case.{caseOf};
+ghost use Rattle.address.specs.Page.{partBytes};
+ghost use Rattle.address.specs.Call.{AddressAnswer, PageAnswer, pageBytes};
+ghost use Rattle.reading.specs.Call.{ReadAnswer};
 ghost use Rattle.lookup.specs.Call.{lookupOf};
 ghost use Rattle.maps.specs.Call.{MapAnswer};
-ghost use Rattle.processor_block.specs.Block.{BlockAnswer};
-ghost use Rattle.process_list.specs.Exact.{ListAnswer};
+ghost use Rattle.processor_block.specs.Call.{BlockAnswer};
+ghost use Rattle.process_list.specs.Call.{ListAnswer};
 
 #[no_mangle]
 pub extern "C" fn glint_resolve(sheet: &[u8], image: &[u8], pagefile: &[u8], address: u64) -> Answer
-    ensures { λ r. ⌜ AddressAnswer (now (sheet .entry)) (now (image .entry)) (now (pagefile .entry)) address r ⌝ }
+    ensures { λ r. ⌜ AddressAnswer (caseOf (now (sheet .entry)) (now (image .entry)) (now (pagefile .entry))) address r ⌝ }
 {
     address::resolve_address(sheet, image, pagefile, address)
 }
@@ -23,8 +24,8 @@ pub extern "C" fn glint_resolve(sheet: &[u8], image: &[u8], pagefile: &[u8], add
 // The page call's part: the bytes there are what `page_of` returns.
 #[no_mangle]
 pub extern "C" fn glint_page(sheet: &[u8], image: &[u8], pagefile: &[u8], address: u64) -> Part
-    ensures part { λ r. ⌜ PageAnswer (now (sheet .entry)) (now (image .entry)) (now (pagefile .entry)) address r ⌝ }
-    ensures bytes { λ r. ⌜ partBytes (now (image .entry)) (now (pagefile .entry)) r ≡ pageBytes (now (sheet .entry)) (now (image .entry)) (now (pagefile .entry)) address ⌝ }
+    ensures part { λ r. ⌜ PageAnswer (caseOf (now (sheet .entry)) (now (image .entry)) (now (pagefile .entry))) address r ⌝ }
+    ensures bytes { λ r. ⌜ partBytes (now (image .entry)) (now (pagefile .entry)) r ≡ pageBytes (caseOf (now (sheet .entry)) (now (image .entry)) (now (pagefile .entry))) address ⌝ }
 {
     address::page_part(sheet, image, pagefile, address)
 }
@@ -38,7 +39,7 @@ pub extern "C" fn glint_read(
     n: u64,
     out: &mut [u8],
 ) -> BytesRead
-    ensures { λ r. ⌜ ReadAnswer (now (sheet .entry)) (now (image .entry)) (now (pagefile .entry)) address n (now (out .entry)) r (now (out .exit)) ⌝ }
+    ensures { λ r. ⌜ ReadAnswer (caseOf (now (sheet .entry)) (now (image .entry)) (now (pagefile .entry))) address n (now (out .entry)) r (now (out .exit)) ⌝ }
 {
     reading::read_bytes(sheet, image, pagefile, address, n, out)
 }
@@ -52,7 +53,7 @@ pub extern "C" fn glint_map(
     pages: u64,
     out: &mut [u8],
 ) -> Written
-    ensures { λ r. ⌜ MapAnswer (now (sheet .entry)) (now (image .entry)) (now (pagefile .entry)) start pages (now (out .entry)) r (now (out .exit)) ⌝ }
+    ensures { λ r. ⌜ MapAnswer (caseOf (now (sheet .entry)) (now (image .entry)) (now (pagefile .entry))) start pages (now (out .entry)) r (now (out .exit)) ⌝ }
 {
     maps::map_range(sheet, image, pagefile, start, pages, out)
 }
@@ -71,7 +72,7 @@ pub extern "C" fn glint_processor_block(
     pagefile: &[u8],
     from: u64,
 ) -> Answer
-    ensures { λ r. ⌜ BlockAnswer (now (sheet .entry)) (now (image .entry)) (now (pagefile .entry)) from r ⌝ }
+    ensures { λ r. ⌜ BlockAnswer (caseOf (now (sheet .entry)) (now (image .entry)) (now (pagefile .entry))) from r ⌝ }
 {
     processor_block::processor_block(sheet, image, pagefile, from)
 }
@@ -84,7 +85,7 @@ pub extern "C" fn glint_process_list(
     head: u64,
     out: &mut [u64],
 ) -> Written
-    ensures { λ r. ⌜ ListAnswer (now (sheet .entry)) (now (image .entry)) (now (pagefile .entry)) head (now (out .entry)) r (now (out .exit)) ⌝ }
+    ensures { λ r. ⌜ ListAnswer (caseOf (now (sheet .entry)) (now (image .entry)) (now (pagefile .entry))) head (now (out .entry)) r (now (out .exit)) ⌝ }
 {
     process_list::process_list(sheet, image, pagefile, head, out)
 }

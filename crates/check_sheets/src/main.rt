@@ -3,8 +3,8 @@
 // A refused sheet prints its number; an accepted one 0, the directory page, the number of runs, and each run's first frame and pages.
 use libc::STDIN_FILENO;
 use libc::STDOUT_FILENO;
-use sheet::Checked;
-use sheet::RunTable;
+use sheet::Header;
+use sheet::SheetRead;
 
 fn main() {
     // No input has 2^64 - 1 records.
@@ -36,26 +36,24 @@ fn check_one(image: u64, pagefile: u64, bytes: &mut [u8]) -> bool {
     if io::read_full(STDIN_FILENO, bytes) < bytes.len() {
         return false;
     }
-    print_checked(sheet::check_sheet(bytes, image, pagefile))
-}
-
-fn print_checked(checked: Checked) -> bool {
-    let outcome = checked.outcome;
-    let number = outcome.number();
-    io::print_decimal(STDOUT_FILENO, number);
-    if number == 0 {
-        let directory = checked.directory;
-        let runs = checked.runs;
-        print_case(directory.number(), runs);
+    let mut rows = [0u64; 96];
+    match sheet::read_sheet(bytes, image, pagefile, &mut rows) {
+        SheetRead::Refused(refusal) => {
+            io::print_decimal(STDOUT_FILENO, refusal.number());
+        }
+        SheetRead::Accepted(header) => {
+            print_case(header, rows);
+        }
     }
     io::write_all(STDOUT_FILENO, b"\n")
 }
 
-fn print_case(directory: u64, runs: RunTable) {
-    print_next(directory);
-    let count = runs.count;
+fn print_case(header: Header, rows: [u64; 96]) {
+    io::print_decimal(STDOUT_FILENO, 0);
+    let directory = header.space.directory;
+    print_next(directory.number());
+    let count = header.count;
     print_next(count as u64);
-    let rows = runs.rows;
     let mut i = 0;
     while i < 32 {
         if i < count {

@@ -21,8 +21,8 @@ use Rattle.walk.specs.declared.Place.{Place}
 use Rattle.walk.specs.declared.Place.the-variants.{Image, Pagefile, Zeros, Refused}
 use Rattle.walk.proofs.Ground.{Sound}
 use Rattle.walk.proofs.Codes.{PlaceCoded, resolve-coded}
-use Rattle.address.specs.Address.{placeAnswer}
-use Rattle.address.specs.declared.Answer.{Answer}
+use Rattle.case.specs.Answer.{placeAnswer}
+use Rattle.case.specs.declared.Answer.{Answer}
 use Rattle.map_format.specs.Extents.{mappedPage, extentsOf}
 use Rattle.map_format.specs.Layout.{headerBytes, extentsBytes, mapBytes}
 use Rattle.map_format.specs.Build.{openBytes, PagesTaken, RoomFor}

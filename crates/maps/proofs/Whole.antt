@@ -14,22 +14,20 @@ use Rattle.base.specs.declared.Refusal.{Refusal}
 use Rattle.base.specs.declared.Refusal.the-variants.{BadMapRange, MapBufferShort}
 use Rattle.base.proofs.Test.{Test, test, below, above, both-true}
 use Rattle.base.proofs.Numbers.{ten-or-more}
-use Rattle.sheet.specs.Sheet.{pagesIn}
-use Rattle.sheet.specs.Sheet as sheet
-use Rattle.sheet.specs.Answer.{RowNumbers}
-use Rattle.sheet.specs.declared.Checked.{Checked}
-use Rattle.sheet.proofs.AcceptedCase.{AcceptedCase, accepted-laws, pages-below}
+use Rattle.varint.specs.Reader.{bad}
+use Rattle.sheet.specs.Sheet.{runPages}
+use Rattle.sheet.specs.declared.AddressSpace.{AddressSpace}
+use Rattle.sheet.proofs.AcceptedCase.{pages-below}
 use Rattle.walk.specs.Walk.{World, worldOf, resolveOf, numberOf, offsetOf}
 use Rattle.entry.specs.Addresses.{reachable, canonical}
-use Rattle.walk.specs.Rows.{worldIn}
+use Rattle.walk.specs.Rows.{rowsWorld}
 use Rattle.walk.specs.declared.Place.{Place}
 use Rattle.walk.specs.declared.Place.the-variants.{Image, Pagefile, Zeros, Refused}
-use Rattle.walk.proofs.Ground.{Sound, At, resolve-at, grounded}
+use Rattle.walk.proofs.Ground.{Sound, At, resolve-at}
 use Rattle.walk.proofs.Codes.{resolve-coded}
 use Rattle.walk.proofs.SamePage.{moved, same-page}
-use Rattle.walk.proofs.CaseWorld.{Opened}
-use Rattle.address.specs.Case.{checkOf}
-use Rattle.address.specs.Address.{GroundedIn}
+use Rattle.case.specs.Case.{Case, checkOf}
+use Rattle.case.proofs.Opening.{Accepted, refused-grounded, accepted-grounded}
 use Rattle.map_format.specs.Reading.{mapFields}
 use Rattle.map_format.specs.Extents.{hasFilePage, extentsOf, pageAt}
 use Rattle.map_format.specs.declared.Extent.{Extent}
@@ -196,29 +194,37 @@ module _ (w : World) (sound : Sound w) (small : length (w .image) ≤ 2 ^ 48) (s
 
 -- ---- the map call
 
--- an accepted image has at most 2^36 pages
-pub small-image : (sh image pagefile : List ℕ) (v : Checked) → Opened sh image pagefile v → length image ≤ 2 ^ 48
-small-image sh image pagefile v o =
-    let a : AcceptedCase (length image) (length pagefile) (o .case) = accepted-laws sh (length image) (length pagefile) (o .case) (o .check) in
-    let below : 0 + pagesIn (o .case .runs) ≤ 2 ^ 36 = pages-below 0 0 (o .case .runs) (omega arith) (a .chain) in
-    omega (arith, a .image-pages)
+module _ (c : Case) where
+  -- an accepted image has at most 2^36 pages
+  pub small-image : (space : AddressSpace) (n : ℕ) (rows : List ℕ) → Accepted c space n rows → length (c .image) ≤ 2 ^ 48
+  small-image space n rows q =
+      let below : 0 + runPages (q .sheet .runs) ≤ 2 ^ 36 = pages-below 0 0 (q .sheet .runs) (omega arith) (q .laws .chain) in
+      omega (arith, q .laws .image-pages)
 
-module _ (sh image pagefile : List ℕ) (start count : ℕ) (old : List ℕ) where
-  pub refused-sheet-map : (x : Refusal) → checkOf sh image pagefile ≡ sheet.refused x → (r : Written) → r ≡ notWritten x → MapAnswer sh image pagefile start count old r old
-  unfolding mapCall
-  refused-sheet-map x e r g = record { same = rw (e, g); demand3 = rw e tt; grounded = λ a. rw e tt }
-
-  module _ (v : Checked) (o : Opened sh image pagefile v) where
-    all-grounded : (a : ℕ) → GroundedIn image pagefile a (checkOf sh image pagefile)
-    all-grounded a = rw (o .check) (grounded (worldOf (o .case) image pagefile) (o .sound) a)
-
-    pub refused-range : allowed start count ≡ false → (r : Written) → r ≡ notWritten BadMapRange → MapAnswer sh image pagefile start count old r old
+  module _ (start count : ℕ) (old : List ℕ) where
+    pub refused-case-map : (x : Refusal) → checkOf c ≡ bad x → (r : Written) → r ≡ notWritten x → MapAnswer c start count old r old
     unfolding mapCall
-    refused-range h r g = record { same = rw (o .check, h, g); demand3 = rw (o .check) (λ e. absurd (let z : true ≡ false = sym e ∙ h in let y : _≡_ {A = ℕ} 0 1 = cc in omega arith)); grounded = all-grounded }
+    refused-case-map x e r g = record { same = rw (e, g); demand3 = rw e tt; grounded = refused-grounded c x e }
 
-    pub mapped : allowed start count ≡ true → (k : ℕ) → RowNumbers (v .runs .count) k → (r : Written) (new : List ℕ)
-        → record { answer = r; buffer = new } ≡ mapInWorld (worldIn (take k (v .runs .rows)) (v .directory) image pagefile) start count old → MapAnswer sh image pagefile start count old r new
-    unfolding mapCall
-    mapped h k m r new e =
-        let e′ : record { answer = r; buffer = new } ≡ mapInWorld (worldOf (o .case) image pagefile) start count old = rw (o .world k m) at e in
-        record { same = rw (o .check, h) e′; demand3 = rw (o .check) (λ x. rw e′ (demand3 (worldOf (o .case) image pagefile) (o .sound) (small-image sh image pagefile v o) start count h old)); grounded = all-grounded }
+    module _ (space : AddressSpace) (n : ℕ) (rows : List ℕ) (q : Accepted c space n rows) where
+      abbrev world : World
+      world = worldOf (q .sheet) (c .image) (c .pagefile)
+
+      pub refused-range : allowed start count ≡ false → (r : Written) → r ≡ notWritten BadMapRange → MapAnswer c start count old r old
+      unfolding mapCall
+      refused-range h r g = record {
+        same = rw (q .check, h, g);
+        demand3 = rw (q .check) (λ e. absurd (let z : true ≡ false = sym e ∙ h in let y : _≡_ {A = ℕ} 0 1 = cc in omega arith));
+        grounded = accepted-grounded c space n rows q;
+      }
+
+      pub mapped : allowed start count ≡ true → (r : Written) (new : List ℕ)
+          → record { answer = r; buffer = new } ≡ mapInWorld (rowsWorld (take n rows) space (c .image) (c .pagefile)) start count old → MapAnswer c start count old r new
+      unfolding mapCall
+      mapped h r new e =
+          let e′ : record { answer = r; buffer = new } ≡ mapInWorld world start count old = rw (q .world) at e in
+          record {
+            same = rw (q .check, h) e′;
+            demand3 = rw (q .check) (λ x. rw e′ (demand3 world (q .sound) (small-image space n rows q) start count h old));
+            grounded = accepted-grounded c space n rows q;
+          }

@@ -1,18 +1,20 @@
 // The map call: where each page of a range leads, as extents.
 use base::Refusal;
 use base::Written;
-use entry::Frame;
+use case::Opened;
 use entry::VirtualPage;
 use map_format::Builder;
 use map_format::Header;
 use map_format::MappedPage;
-use sheet::Outcome;
+use sheet::AddressSpace;
 ghost use mathlib.Core.Path.{_≡_};
 ghost use mathlib.Core.Bool.{true};
 ghost use Prim.Native.Nat.{_≤_, _^_};
 ghost use lib.ListN.{length};
 ghost use Rattle.base.specs.Overlay.{Wrote};
-ghost use Rattle.walk.specs.Rows.{worldIn};
+ghost use Rattle.walk.specs.Rows.{rowsWorld};
+ghost use Rattle.case.specs.Case.{caseOf};
+ghost use Rattle.case.specs.Inner.{rowNumbers};
 ghost use Rattle.maps.specs.MapOf.{allowed, mapOf};
 ghost use Rattle.maps.specs.Call.{mapInWorld, MapAnswer};
 
@@ -36,52 +38,55 @@ pub fn map_range(
     pages: u64,
     out: &mut [u8],
 ) -> Written
-    ensures { λ r. ⌜ MapAnswer (now (sheet .entry)) (now (image .entry)) (now (pagefile .entry)) start pages (now (out .entry)) r (now (out .exit)) ⌝ }
+    ensures { λ r. ⌜ MapAnswer (caseOf (now (sheet .entry)) (now (image .entry)) (now (pagefile .entry))) start pages (now (out .entry)) r (now (out .exit)) ⌝ }
 {
-    let checked = sheet::check_sheet(sheet, image.len() as u64, pagefile.len() as u64);
-    let outcome = checked.outcome;
-    match outcome {
-        Outcome::Refused(fault) => base::not_written(fault),
-        Outcome::Accepted => {
+    let mut rows = [0u64; 96];
+    map_over(sheet, image, pagefile, &mut rows, start, pages, out)
+}
+
+// The same, with the rows of the runs over lent numbers.
+fn map_over(
+    sheet: &[u8],
+    image: &[u8],
+    pagefile: &[u8],
+    rows: &mut [u64],
+    start: u64,
+    pages: u64,
+    out: &mut [u8],
+) -> Written
+    requires { ⌜ rowNumbers (caseOf (now sheet) (now image) (now pagefile)) ≤ length (now rows) ⌝ }
+    ensures { λ r. ⌜ MapAnswer (caseOf (now (sheet .entry)) (now (image .entry)) (now (pagefile .entry))) start pages (now (out .entry)) r (now (out .exit)) ⌝ }
+{
+    match case::open_case(sheet, image, pagefile, rows) {
+        Opened::Refused(refusal) => base::not_written(refusal),
+        Opened::Ready(space, n) => {
             if !is_allowed(start, pages) {
                 return base::not_written(Refusal::BadMapRange);
             }
-            let table = checked.runs;
-            let rows = table.rows;
-            let k = sheet::row_numbers(table.count);
-            let directory = checked.directory;
-            map_in(&rows[..k], image, pagefile, directory, start, pages, out)
+            map_in(&rows[..n], image, pagefile, space, start, pages, out)
         }
     }
 }
 
-// The same of a case whose sheet was read and an allowed range: a measuring pass, then a writing one.
+// The same of an opened case and an allowed range: a measuring pass, then a writing one.
 fn map_in(
     rows: &[u64],
     image: &[u8],
     pagefile: &[u8],
-    directory: Frame,
+    space: AddressSpace,
     start: u64,
     pages: u64,
     out: &mut [u8],
 ) -> Written
     requires { ⌜ (allowed start pages ≡ true) × (length (now image) ≤ 2 ^ 48) ⌝ }
-    ensures { λ r. ⌜ record { answer = r; buffer = now (out .exit) } ≡ mapInWorld (worldIn (now (rows .entry)) directory (now (image .entry)) (now (pagefile .entry))) start pages (now (out .entry)) ⌝ }
+    ensures { λ r. ⌜ record { answer = r; buffer = now (out .exit) } ≡ mapInWorld (rowsWorld (now (rows .entry)) space (now (image .entry)) (now (pagefile .entry))) start pages (now (out .entry)) ⌝ }
 {
     let none = 0;
-    let length = write_map(
-        rows,
-        image,
-        pagefile,
-        directory,
-        start,
-        pages,
-        &mut out[..none],
-    );
+    let length = write_map(rows, image, pagefile, space, start, pages, &mut out[..none]);
     if out.len() < length {
         return base::not_written(Refusal::MapBufferShort);
     }
-    write_map(rows, image, pagefile, directory, start, pages, out);
+    write_map(rows, image, pagefile, space, start, pages, out);
     Written {
         number: 0,
         length: length as u64,
@@ -115,13 +120,13 @@ fn write_map(
     rows: &[u64],
     image: &[u8],
     pagefile: &[u8],
-    directory: Frame,
+    space: AddressSpace,
     start: u64,
     pages: u64,
     out: &mut [u8],
 ) -> usize
     requires { ⌜ (allowed start pages ≡ true) × (length (now image) ≤ 2 ^ 48) ⌝ }
-    ensures { λ r. ⌜ Wrote (now (out .entry)) 0 (mapOf (worldIn (now (rows .entry)) directory (now (image .entry)) (now (pagefile .entry))) start pages) r (now (out .exit)) ⌝ }
+    ensures { λ r. ⌜ Wrote (now (out .entry)) 0 (mapOf (rowsWorld (now (rows .entry)) space (now (image .entry)) (now (pagefile .entry))) start pages) r (now (out .exit)) ⌝ }
 {
     let header = Header {
         start: VirtualPage::of_address(start),
@@ -136,8 +141,8 @@ fn write_map(
     };
     let mut i = 0;
     while i < pages {
-        let found = walk::resolve_in(rows, image, pagefile, directory, start + PAGE_BYTES * i);
-        let answer = address::answer_of(found);
+        let found = walk::resolve_in(rows, image, pagefile, space, start + PAGE_BYTES * i);
+        let answer = case::answer_of(found);
         let page = MappedPage {
             code: answer.number,
             file: answer.offset / PAGE_BYTES,

@@ -11,19 +11,19 @@ use Rattle.base.specs.declared.Written.{Written}
 use Rattle.base.specs.declared.Refusal.{Refusal}
 use Rattle.base.specs.declared.Refusal.the-variants.{LinkUnaligned}
 use Rattle.base.proofs.Overlay.{sets-none}
-use Rattle.sheet.specs.Sheet as sheet
-use Rattle.sheet.specs.Answer.{RowNumbers}
-use Rattle.sheet.specs.declared.Checked.{Checked}
+use Rattle.varint.specs.Reader.{bad}
+use Rattle.sheet.specs.declared.AddressSpace.{AddressSpace}
 use Rattle.walk.specs.Walk.{World, worldOf, resolveOf}
-use Rattle.walk.specs.Rows.{worldIn}
-use Rattle.walk.proofs.Ground.{word-inside, resolve-at, grounded}
-use Rattle.walk.proofs.CaseWorld.{Opened}
-use Rattle.address.specs.Case.{checkOf}
+use Rattle.walk.specs.Rows.{rowsWorld}
+use Rattle.walk.proofs.Ground.{word-inside, resolve-at}
+use Rattle.case.specs.Case.{Case, checkOf}
+use Rattle.case.proofs.Opening.{Accepted, refused-grounded, accepted-grounded}
 use Rattle.process_list.specs.declared.Followed.{Followed}
-use Rattle.process_list.specs.declared.Followed.the-variants.{Closed, Stopped}
-use Rattle.process_list.specs.List.{Nodes, nodes, fault, nodesAfter, nodesOf, listed, listOf}
-use Rattle.process_list.specs.Exact.{FoundIn, ListAnswer}
-use Rattle.process_list.specs.Follow.{followedOf, Laid, Pass}
+use Rattle.process_list.specs.declared.Followed.the-variants.{Closed}
+use Rattle.process_list.specs.declared.Followed.the-variants as followed
+use Rattle.process_list.specs.List.{Nodes, nodes, refused, nodesAfter, nodesOf}
+use Rattle.process_list.specs.Call.{nodesOutcome, listOf, ListAnswer}
+use Rattle.process_list.specs.Inner.{followedOf, NodesLaid, Pass}
 use Rattle.process_list.proofs.Closing.{exact-list}
 
 -- ---- the two passes
@@ -37,22 +37,22 @@ module _ (ns : Nodes) (old last : List ℕ) (r : Followed) (p : Pass ns [] r las
       empty [] e = refl
       empty (x ∷ l) e = absurd (omega (arith, e))
 
-      go : (ns : Nodes) → Laid [] ns last → last ≡ []
+      go : (ns : Nodes) → NodesLaid [] ns last → last ≡ []
       go (nodes xs) l = l ∙ sets-none 0 xs
-      go (fault x) l = empty last l
+      go (refused x) l = empty last l
 
-  pub broken-list : (x : Refusal) → r ≡ Stopped x → (answer : Written) → answer ≡ notWritten x → record { answer = answer; buffer = last ++ old } ≡ listed old ns
-  broken-list x e answer g = rw nothing (go ns (sym (p .answer) ∙ e))
+  pub refused-list : (x : Refusal) → r ≡ followed.Refused x → (answer : Written) → answer ≡ notWritten x → record { answer = answer; buffer = last ++ old } ≡ nodesOutcome old ns
+  refused-list x e answer g = rw nothing (go ns (sym (p .answer) ∙ e))
     where
-      go : (ns : Nodes) → followedOf ns ≡ Stopped x → record { answer = answer; buffer = old } ≡ listed old ns
+      go : (ns : Nodes) → followedOf ns ≡ followed.Refused x → record { answer = answer; buffer = old } ≡ nodesOutcome old ns
       go (nodes xs) f = absurd (let z : _≡_ {A = ℕ} 0 1 = cc in omega arith)
-      go (fault y) f = let same : y ≡ x = cc in rw (g, same)
+      go (refused y) f = let same : y ≡ x = cc in rw (g, same)
 
-  pub whole-list : (n : ℕ) → r ≡ Closed n → (r₂ : Followed) (new : List ℕ) → Pass ns (last ++ old) r₂ new → record { answer = record { number = 0; length = n }; buffer = new } ≡ listed old ns
+  pub whole-list : (n : ℕ) → r ≡ Closed n → (r₂ : Followed) (new : List ℕ) → Pass ns (last ++ old) r₂ new → record { answer = record { number = 0; length = n }; buffer = new } ≡ nodesOutcome old ns
   whole-list n e r₂ new q = go ns (sym (p .answer) ∙ e) (q .buffer)
     where
-      go : (ns : Nodes) → followedOf ns ≡ Closed n → Laid (last ++ old) ns new → record { answer = record { number = 0; length = n }; buffer = new } ≡ listed old ns
-      go (fault y) f l = absurd (let z : _≡_ {A = ℕ} 0 1 = cc in omega arith)
+      go : (ns : Nodes) → followedOf ns ≡ Closed n → NodesLaid (last ++ old) ns new → record { answer = record { number = 0; length = n }; buffer = new } ≡ nodesOutcome old ns
+      go (refused y) f l = absurd (let z : _≡_ {A = ℕ} 0 1 = cc in omega arith)
       go (nodes xs) f l =
           let same : length xs ≡ n = cc in
           let b : new ≡ sets old 0 xs = rw nothing at l in
@@ -60,27 +60,29 @@ module _ (ns : Nodes) (old last : List ℕ) (r : Followed) (p : Pass ns [] r las
 
 -- ---- the call
 
-module _ (sh image pagefile : List ℕ) (h : ℕ) (old : List ℕ) where
-  pub refused-sheet-list : (x : Refusal) → checkOf sh image pagefile ≡ sheet.refused x → (r : Written) → r ≡ notWritten x → ListAnswer sh image pagefile h old r old
+module _ (c : Case) (h : ℕ) (old : List ℕ) where
+  pub refused-case-list : (x : Refusal) → checkOf c ≡ bad x → (r : Written) → r ≡ notWritten x → ListAnswer c h old r old
   unfolding listOf
-  refused-sheet-list x e r g = record { same = rw (e, g); exact = rw e tt; found = rw e tt; grounded = λ a. rw e tt }
+  refused-case-list x e r g = record { same = rw (e, g); exact = rw e tt; found = rw e tt; grounded = refused-grounded c x e }
 
-  module _ (v : Checked) (o : Opened sh image pagefile v) where
+  module _ (space : AddressSpace) (n : ℕ) (rows : List ℕ) (q : Accepted c space n rows) where
     abbrev world : World
-    world = worldOf (o .case) image pagefile
+    world = worldOf (q .sheet) (c .image) (c .pagefile)
 
-    words-found : FoundIn image pagefile (checkOf sh image pagefile)
-    words-found = rw (o .check) (λ a e. word-inside world a (resolveOf 3 world a .place) e (resolve-at world (o .sound) 3 a))
-
-    answered : (r : Written) (new : List ℕ) → record { answer = r; buffer = new } ≡ listed old (nodesOf world (length old) h) → ListAnswer sh image pagefile h old r new
+    answered : (r : Written) (new : List ℕ) → record { answer = r; buffer = new } ≡ nodesOutcome old (nodesOf world (length old) h) → ListAnswer c h old r new
     unfolding listOf
-    answered r new e = record { same = rw (o .check) e; exact = rw (o .check, e) (exact-list world h old); found = words-found; grounded = λ a. rw (o .check) (grounded world (o .sound) a) }
+    answered r new e = record {
+      same = rw (q .check) e;
+      exact = rw (q .check, e) (exact-list world h old);
+      found = rw (q .check) (λ a z. word-inside world a (resolveOf 3 world a .place) z (resolve-at world (q .sound) 3 a));
+      grounded = accepted-grounded c space n rows q;
+    }
 
-    pub unaligned-head : (h % 8 ≡ 0 → ⊥) → (r : Written) → r ≡ notWritten LinkUnaligned → ListAnswer sh image pagefile h old r old
+    pub unaligned-head : (h % 8 ≡ 0 → ⊥) → (r : Written) → r ≡ notWritten LinkUnaligned → ListAnswer c h old r old
     unfolding nodesOf
-    unaligned-head n r g = answered r old (rw (ne-eqb (h % 8) 0 n, g))
+    unaligned-head k r g = answered r old (rw (ne-eqb (h % 8) 0 k, g))
 
-    pub list-answered : h % 8 ≡ 0 → (k : ℕ) → RowNumbers (v .runs .count) k → (r : Written) (new : List ℕ)
-        → record { answer = r; buffer = new } ≡ listed old (nodesAfter 4096 (worldIn (take k (v .runs .rows)) (v .directory) image pagefile) (length old) h h) → ListAnswer sh image pagefile h old r new
+    pub list-answered : h % 8 ≡ 0 → (r : Written) (new : List ℕ)
+        → record { answer = r; buffer = new } ≡ nodesOutcome old (nodesAfter 4096 (rowsWorld (take n rows) space (c .image) (c .pagefile)) (length old) h h) → ListAnswer c h old r new
     unfolding nodesOf
-    list-answered a k m r new e = answered r new (rw (eq-eqb (h % 8) 0 a) (rw (o .world k m) at e))
+    list-answered a r new e = answered r new (rw (eq-eqb (h % 8) 0 a) (rw (q .world) at e))

@@ -16,9 +16,11 @@ use Rattle.base.specs.declared.Refusal.the-variants.{ListBufferShort, TooManyPr
 use Rattle.base.proofs.Numbers.{ten-or-more}
 use Rattle.walk.specs.Walk.{World}
 use Rattle.process_list.specs.declared.Linked.{Linked}
-use Rattle.process_list.specs.declared.Linked.the-variants.{Address, Broken}
-use Rattle.process_list.specs.List.{nextOf, Nodes, nodes, fault, andNode, unlessHead, nodesAfter, nodesOf, listed}
-use Rattle.process_list.specs.Exact.{Follows, Closes, Absent, AllDifferent, ClosedList, Exact}
+use Rattle.process_list.specs.declared.Linked.the-variants.{Address}
+use Rattle.process_list.specs.declared.Linked.the-variants as linked
+use Rattle.process_list.specs.List.{nextNode, Nodes, nodes, refused, andNode, unlessHead, nodesAfter, nodesOf}
+use Rattle.process_list.specs.Call.{nodesOutcome}
+use Rattle.process_list.specs.Exact.{Follows, Closes, Absent, AllDifferent, ClosedList, ExactList}
 use Rattle.process_list.proofs.Links.{follows-next, next-follows}
 
 -- ---- all different
@@ -57,27 +59,27 @@ pub record Found (w : World) (n room h x : ℕ) (xs : List ℕ) : Type 0 where
   pub most : length xs ≤ n
   pub fits : length xs ≤ room
 
-fault-is-no-list : (r : Refusal) (xs : List ℕ) {A : Type 0} → fault r ≡ nodes xs → A
-fault-is-no-list r xs e = absurd (let z : _≡_ {A = ℕ} 0 1 = cc in omega arith)
+refused-is-no-list : (r : Refusal) (xs : List ℕ) {A : Type 0} → refused r ≡ nodes xs → A
+refused-is-no-list r xs e = absurd (let z : _≡_ {A = ℕ} 0 1 = cc in omega arith)
 
 module _ (w : World) (h : ℕ) where
   nodes-close : (n room x : ℕ) (xs : List ℕ) → nodesAfter n w room h x ≡ nodes xs → Found w n room h x xs
   unfolding nodesAfter
-  nodes-close zero room x xs e = link (nextOf w x) refl e
+  nodes-close zero room x xs e = link (nextNode w x) refl e
     where
-      head : (y : ℕ) → nextOf w x ≡ Address y → (t : Bool) → eqb y h ≡ t → (if t then nodes [] else fault TooManyProcesses) ≡ nodes xs → Found w 0 room h x xs
+      head : (y : ℕ) → nextNode w x ≡ Address y → (t : Bool) → eqb y h ≡ t → (if t then nodes [] else refused TooManyProcesses) ≡ nodes xs → Found w 0 room h x xs
       head y f true g k =
           let none : [] ≡ xs = cc in
           let same : y ≡ h = eqb-true y h g in
           rw (← none) (record { closes = rw same at (next-follows w x y f); most = omega arith; fits = omega arith })
-      head y f false g k = fault-is-no-list TooManyProcesses xs k
+      head y f false g k = refused-is-no-list TooManyProcesses xs k
 
-      link : (l : Linked) → nextOf w x ≡ l → unlessHead h (λ y. fault TooManyProcesses) l ≡ nodes xs → Found w 0 room h x xs
-      link (Broken r) f k = fault-is-no-list r xs k
+      link : (l : Linked) → nextNode w x ≡ l → unlessHead h (λ y. refused TooManyProcesses) l ≡ nodes xs → Found w 0 room h x xs
+      link (linked.Refused r) f k = refused-is-no-list r xs k
       link (Address y) f k = head y f (eqb y h) refl k
-  nodes-close (suc n) room x xs e = link (nodes-close n (room - 1)) (nextOf w x) refl e
+  nodes-close (suc n) room x xs e = link (nodes-close n (room - 1)) (nextNode w x) refl e
     where
-      rest : (y : ℕ) → nextOf w x ≡ Address y → (y ≡ h → ⊥) → (room ≡ 0 → ⊥) → (ns : Nodes) → ((ys : List ℕ) → ns ≡ nodes ys → Found w n (room - 1) h y ys) → andNode y ns ≡ nodes xs → Found w (suc n) room h x xs
+      rest : (y : ℕ) → nextNode w x ≡ Address y → (y ≡ h → ⊥) → (room ≡ 0 → ⊥) → (ns : Nodes) → ((ys : List ℕ) → ns ≡ nodes ys → Found w n (room - 1) h y ys) → andNode y ns ≡ nodes xs → Found w (suc n) room h x xs
       rest y f g z (nodes ys) deeper k =
           let more : y ∷ ys ≡ xs = cc in
           let q : Found w n (room - 1) h y ys = deeper ys refl in
@@ -85,22 +87,22 @@ module _ (w : World) (h : ℕ) where
         where
           filled : length ys ≤ room - 1 → (room ≡ 0 → ⊥) → suc (length ys) ≤ room
           filled l z = omega arith
-      rest y f g z (fault r) deeper k = fault-is-no-list r xs k
+      rest y f g z (refused r) deeper k = refused-is-no-list r xs k
 
-      free : (y : ℕ) → nextOf w x ≡ Address y → (y ≡ h → ⊥) → ((ys : List ℕ) → nodesAfter n w (room - 1) h y ≡ nodes ys → Found w n (room - 1) h y ys) → (t : Bool) → eqb room 0 ≡ t
-          → (if t then fault ListBufferShort else andNode y (nodesAfter n w (room - 1) h y)) ≡ nodes xs → Found w (suc n) room h x xs
-      free y f g deeper true z k = fault-is-no-list ListBufferShort xs k
+      free : (y : ℕ) → nextNode w x ≡ Address y → (y ≡ h → ⊥) → ((ys : List ℕ) → nodesAfter n w (room - 1) h y ≡ nodes ys → Found w n (room - 1) h y ys) → (t : Bool) → eqb room 0 ≡ t
+          → (if t then refused ListBufferShort else andNode y (nodesAfter n w (room - 1) h y)) ≡ nodes xs → Found w (suc n) room h x xs
+      free y f g deeper true z k = refused-is-no-list ListBufferShort xs k
       free y f g deeper false z k = rest y f g (eqb-false room 0 z) (nodesAfter n w (room - 1) h y) deeper k
 
-      head : ((y : ℕ) (ys : List ℕ) → nodesAfter n w (room - 1) h y ≡ nodes ys → Found w n (room - 1) h y ys) → (y : ℕ) → nextOf w x ≡ Address y → (t : Bool) → eqb y h ≡ t → (if t then nodes [] else (if eqb room 0 then fault ListBufferShort else andNode y (nodesAfter n w (room - 1) h y))) ≡ nodes xs → Found w (suc n) room h x xs
+      head : ((y : ℕ) (ys : List ℕ) → nodesAfter n w (room - 1) h y ≡ nodes ys → Found w n (room - 1) h y ys) → (y : ℕ) → nextNode w x ≡ Address y → (t : Bool) → eqb y h ≡ t → (if t then nodes [] else (if eqb room 0 then refused ListBufferShort else andNode y (nodesAfter n w (room - 1) h y))) ≡ nodes xs → Found w (suc n) room h x xs
       head deeper y f true g k =
           let none : [] ≡ xs = cc in
           let same : y ≡ h = eqb-true y h g in
           rw (← none) (record { closes = rw same at (next-follows w x y f); most = omega arith; fits = omega arith })
       head deeper y f false g k = free y f (eqb-false y h g) (deeper y) (eqb room 0) refl k
 
-      link : ((y : ℕ) (ys : List ℕ) → nodesAfter n w (room - 1) h y ≡ nodes ys → Found w n (room - 1) h y ys) → (l : Linked) → nextOf w x ≡ l → unlessHead h (λ y. if eqb room 0 then fault ListBufferShort else andNode y (nodesAfter n w (room - 1) h y)) l ≡ nodes xs → Found w (suc n) room h x xs
-      link deeper (Broken r) f k = fault-is-no-list r xs k
+      link : ((y : ℕ) (ys : List ℕ) → nodesAfter n w (room - 1) h y ≡ nodes ys → Found w n (room - 1) h y ys) → (l : Linked) → nextNode w x ≡ l → unlessHead h (λ y. if eqb room 0 then refused ListBufferShort else andNode y (nodesAfter n w (room - 1) h y)) l ≡ nodes xs → Found w (suc n) room h x xs
+      link deeper (linked.Refused r) f k = refused-is-no-list r xs k
       link deeper (Address y) f k = head deeper y f (eqb y h) refl k
 
   -- ---- and nodes that close are found
@@ -121,9 +123,9 @@ module _ (w : World) (h : ℕ) (old : List ℕ) where
   unfolding nodesOf
   head-first xs e = go (eqb (h % 8) 0) refl e
     where
-      go : (t : Bool) → eqb (h % 8) 0 ≡ t → (if t then nodesAfter 4096 w (length old) h h else fault LinkUnaligned) ≡ nodes xs → (h % 8 ≡ 0) × (nodesAfter 4096 w (length old) h h ≡ nodes xs)
+      go : (t : Bool) → eqb (h % 8) 0 ≡ t → (if t then nodesAfter 4096 w (length old) h h else refused LinkUnaligned) ≡ nodes xs → (h % 8 ≡ 0) × (nodesAfter 4096 w (length old) h h ≡ nodes xs)
       go true g k = (eqb-true (h % 8) 0 g, k)
-      go false g k = fault-is-no-list LinkUnaligned xs k
+      go false g k = refused-is-no-list LinkUnaligned xs k
 
   closed-list : (xs : List ℕ) → nodesOf w (length old) h ≡ nodes xs → ClosedList w h xs × (length xs ≤ length old)
   closed-list xs e =
@@ -138,19 +140,19 @@ module _ (w : World) (h : ℕ) (old : List ℕ) where
   unfolding nodesOf
   complete-list xs q l = rw (eq-eqb (h % 8) 0 (q .head)) (closes-nodes w h xs 4096 (length old) h (q .closes) (q .most) l)
 
-  pub exact-list : Exact w h old (listed old (nodesOf w (length old) h))
+  pub exact-list : ExactList w h old (nodesOutcome old (nodesOf w (length old) h))
   exact-list = go (nodesOf w (length old) h) refl
     where
-      refused : (r : Refusal) {A : Type 0} → refusalNumber r ≡ 0 → A
-      refused r e = absurd (omega (arith, ten-or-more r))
+      no-answer : (r : Refusal) {A : Type 0} → refusalNumber r ≡ 0 → A
+      no-answer r e = absurd (omega (arith, ten-or-more r))
 
-      complete : (ns : Nodes) → nodesOf w (length old) h ≡ ns → (xs : List ℕ) → ClosedList w h xs → length xs ≤ length old → listed old ns ≡ written old xs
+      complete : (ns : Nodes) → nodesOf w (length old) h ≡ ns → (xs : List ℕ) → ClosedList w h xs → length xs ≤ length old → nodesOutcome old ns ≡ written old xs
       complete ns e xs q l =
           let same : ns ≡ nodes xs = sym e ∙ complete-list xs q l in
           rw same
 
-      go : (ns : Nodes) → nodesOf w (length old) h ≡ ns → Exact w h old (listed old ns)
-      go (fault r) e = record { sound = λ z. refused r z; fits = λ z. refused r z; different = λ z. refused r z; complete = complete (fault r) e }
+      go : (ns : Nodes) → nodesOf w (length old) h ≡ ns → ExactList w h old (nodesOutcome old ns)
+      go (refused r) e = record { sound = λ z. no-answer r z; fits = λ z. no-answer r z; different = λ z. no-answer r z; complete = complete (refused r) e }
       go (nodes xs) e =
           let p = closed-list xs e in
           let front : take (length xs) (sets old 0 xs) ≡ xs = written-front xs (p .1) in

@@ -4,14 +4,9 @@ use mathlib.Core.Path.{_≡_}
 use mathlib.Core.List.{List, [], _∷_}
 use lib.ListN.{length, take}
 use Rattle.base.specs.Written.{WriteOutcome, written}
-use Rattle.base.specs.declared.Written.{Written}
-use Rattle.sheet.specs.Sheet.{Check, accepted, refused}
-use Rattle.walk.specs.Walk.{World, worldOf, resolveOf}
-use Rattle.walk.specs.Rows.{WordInside}
-use Rattle.address.specs.Case.{checkOf}
-use Rattle.address.specs.Address.{GroundedIn}
+use Rattle.walk.specs.Walk.{World}
 use Rattle.process_list.specs.declared.Linked.the-variants.{Address}
-use Rattle.process_list.specs.List.{linkOf, listOf}
+use Rattle.process_list.specs.List.{linkOf}
 
 -- y follows x: both words can be read, and y lies at a multiple of 8
 pub record Follows (w : World) (x y : ℕ) : Type 0 where
@@ -38,27 +33,10 @@ pub record ClosedList (w : World) (h : ℕ) (xs : List ℕ) : Type 0 where
   pub closes : Closes w h h xs
   pub most : length xs ≤ 4096
 
-pub record Exact (w : World) (h : ℕ) (old : List ℕ) (out : WriteOutcome) : Type 0 where
+pub record ExactList (w : World) (h : ℕ) (old : List ℕ) (out : WriteOutcome) : Type 0 where
   -- accepted: the written nodes close, fit the buffer, are all different, and none is the head
   pub sound : out .answer .number ≡ 0 → ClosedList w h (take (out .answer .length) (out .buffer))
   pub fits : out .answer .number ≡ 0 → out .answer .length ≤ length old
   pub different : out .answer .number ≡ 0 → AllDifferent (h ∷ take (out .answer .length) (out .buffer))
   -- and a list that closes and fits is accepted
   pub complete : (xs : List ℕ) → ClosedList w h xs → length xs ≤ length old → out ≡ written old xs
-
--- for every accepted case
-abbrev pub ExactIn : List ℕ → List ℕ → ℕ → List ℕ → WriteOutcome → Check → Type 0
-ExactIn image pagefile h old out (refused r) = Unit {0}
-ExactIn image pagefile h old out (accepted s) = Exact (worldOf s image pagefile) h old out
-
--- for an accepted case each word at a multiple of 8 lies in its file: what is not a page of zeros, and not refused, was found
-abbrev pub FoundIn : List ℕ → List ℕ → Check → Type 0
-FoundIn image pagefile (refused r) = Unit {0}
-FoundIn image pagefile (accepted s) = (a : ℕ) → a % 8 ≡ 0 → WordInside image pagefile (resolveOf 3 (worldOf s image pagefile) a .place)
-
--- the list call's promise: what it hands back, demand 2, and that links and walks rest on what the files hold
-pub record ListAnswer (sheet image pagefile : List ℕ) (h : ℕ) (old : List ℕ) (r : Written) (new : List ℕ) : Type 0 where
-  pub same : record { answer = r; buffer = new } ≡ listOf sheet image pagefile h old
-  pub exact : ExactIn image pagefile h old (record { answer = r; buffer = new }) (checkOf sheet image pagefile)
-  pub found : FoundIn image pagefile (checkOf sheet image pagefile)
-  pub grounded : (a : ℕ) → GroundedIn image pagefile a (checkOf sheet image pagefile)

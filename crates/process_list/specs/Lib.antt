@@ -1,3 +1,4 @@
 pub mod List
 pub mod Exact
-pub mod Follow
+pub mod Call
+pub mod Inner

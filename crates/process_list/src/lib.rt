@@ -1,27 +1,34 @@
 // The process list: nodes linked forward and back from a head.
 use base::Refusal;
 use base::Written;
-use entry::Frame;
-use sheet::Outcome;
+use case::Opened;
+use sheet::AddressSpace;
 use walk::Place;
 ghost use mathlib.Core.Path.{_≡_};
-ghost use Prim.Native.Nat.{_+_, _%_};
-ghost use lib.ListN.{length, set};
-ghost use Rattle.walk.specs.Rows.{worldIn};
-ghost use Rattle.process_list.specs.List.{linkOf, nextOf, nodesAfter, listed};
-ghost use Rattle.process_list.specs.Exact.{ListAnswer};
-ghost use Rattle.process_list.specs.Follow.{afterLast, Pass};
+ghost use Prim.Native.Nat.{_+_, _%_, _≤_};
+ghost use lib.ListN.{length};
+ghost use Rattle.walk.specs.Rows.{rowsWorld, WordInside};
+ghost use Rattle.case.specs.Case.{caseOf};
+ghost use Rattle.case.specs.Inner.{rowNumbers};
+ghost use Rattle.process_list.specs.List.{linkAt, linkOf, nextNode, nodesAfter};
+ghost use Rattle.process_list.specs.Call.{nodesOutcome, ListAnswer};
+ghost use Rattle.process_list.specs.Inner.{afterLast, Pass};
 
-// The address that a link has, or the fault met on the way to it.
+// 01's limit of a list.
+const MOST_PROCESSES: u64 = 4096;
+// The last address whose back word, 8 bytes on, is not past the top.
+const LAST_LINK: u64 = 0xFFFFFFFFFFFFFFF7;
+
+// The address that a link has, or the refusal met on the way to it.
 pub enum Linked {
     Address(u64),
-    Broken(Refusal),
+    Refused(Refusal),
 }
 
-// The count of nodes of a list that closes, or the first fault.
+// The count of nodes of a list that closes, or the first refusal.
 pub enum Followed {
     Closed(u64),
-    Stopped(Refusal),
+    Refused(Refusal),
 }
 
 // The addresses of the nodes of the list at a head into the lent buffer.
@@ -32,51 +39,53 @@ pub fn process_list(
     head: u64,
     out: &mut [u64],
 ) -> Written
-    ensures { λ r. ⌜ ListAnswer (now (sheet .entry)) (now (image .entry)) (now (pagefile .entry)) head (now (out .entry)) r (now (out .exit)) ⌝ }
+    ensures { λ r. ⌜ ListAnswer (caseOf (now (sheet .entry)) (now (image .entry)) (now (pagefile .entry))) head (now (out .entry)) r (now (out .exit)) ⌝ }
 {
-    let checked = sheet::check_sheet(sheet, image.len() as u64, pagefile.len() as u64);
-    let outcome = checked.outcome;
-    match outcome {
-        Outcome::Refused(fault) => base::not_written(fault),
-        Outcome::Accepted => {
+    let mut rows = [0u64; 96];
+    list_over(sheet, image, pagefile, &mut rows, head, out)
+}
+
+// The same, with the rows of the runs over lent numbers.
+fn list_over(
+    sheet: &[u8],
+    image: &[u8],
+    pagefile: &[u8],
+    rows: &mut [u64],
+    head: u64,
+    out: &mut [u64],
+) -> Written
+    requires { ⌜ rowNumbers (caseOf (now sheet) (now image) (now pagefile)) ≤ length (now rows) ⌝ }
+    ensures { λ r. ⌜ ListAnswer (caseOf (now (sheet .entry)) (now (image .entry)) (now (pagefile .entry))) head (now (out .entry)) r (now (out .exit)) ⌝ }
+{
+    match case::open_case(sheet, image, pagefile, rows) {
+        Opened::Refused(refusal) => base::not_written(refusal),
+        Opened::Ready(space, n) => {
             if head % 8 != 0 {
                 return base::not_written(Refusal::LinkUnaligned);
             }
-            let table = checked.runs;
-            let rows = table.rows;
-            let k = sheet::row_numbers(table.count);
-            let directory = checked.directory;
-            list_in(&rows[..k], image, pagefile, directory, head, out)
+            list_in(&rows[..n], image, pagefile, space, head, out)
         }
     }
 }
 
-// The same of a case whose sheet was read: a pass that writes nothing, then a writing one.
+// The same of an opened case: a pass that writes nothing, then a writing one.
 fn list_in(
     rows: &[u64],
     image: &[u8],
     pagefile: &[u8],
-    directory: Frame,
+    space: AddressSpace,
     head: u64,
     out: &mut [u64],
 ) -> Written
     requires { ⌜ head % 8 ≡ 0 ⌝ }
-    ensures { λ r. ⌜ record { answer = r; buffer = now (out .exit) } ≡ listed (now (out .entry)) (nodesAfter 4096 (worldIn (now (rows .entry)) directory (now (image .entry)) (now (pagefile .entry))) (length (now (out .entry))) head head) ⌝ }
+    ensures { λ r. ⌜ record { answer = r; buffer = now (out .exit) } ≡ nodesOutcome (now (out .entry)) (nodesAfter 4096 (rowsWorld (now (rows .entry)) space (now (image .entry)) (now (pagefile .entry))) (length (now (out .entry))) head head) ⌝ }
 {
     let room = out.len() as u64;
     let none = 0;
-    match follow(
-        rows,
-        image,
-        pagefile,
-        directory,
-        head,
-        room,
-        &mut out[..none],
-    ) {
-        Followed::Stopped(fault) => base::not_written(fault),
+    match follow(rows, image, pagefile, space, head, room, &mut out[..none]) {
+        Followed::Refused(refusal) => base::not_written(refusal),
         Followed::Closed(count) => {
-            follow(rows, image, pagefile, directory, head, room, out);
+            follow(rows, image, pagefile, space, head, room, out);
             Written {
                 number: 0,
                 length: count,
@@ -90,35 +99,35 @@ fn follow(
     rows: &[u64],
     image: &[u8],
     pagefile: &[u8],
-    directory: Frame,
+    space: AddressSpace,
     head: u64,
     room: u64,
     out: &mut [u64],
 ) -> Followed
     requires { ⌜ head % 8 ≡ 0 ⌝ }
-    ensures { λ r. ⌜ Pass (nodesAfter 4096 (worldIn (now (rows .entry)) directory (now (image .entry)) (now (pagefile .entry))) room head head) (now (out .entry)) r (now (out .exit)) ⌝ }
+    ensures { λ r. ⌜ Pass (nodesAfter 4096 (rowsWorld (now (rows .entry)) space (now (image .entry)) (now (pagefile .entry))) room head head) (now (out .entry)) r (now (out .exit)) ⌝ }
 {
     let mut node = head;
     let mut count = 0;
-    while count < 4096 {
-        match next_node(rows, image, pagefile, directory, node) {
-            Linked::Broken(fault) => {
-                return Followed::Stopped(fault);
+    while count < MOST_PROCESSES {
+        match next_node(rows, image, pagefile, space, node) {
+            Linked::Refused(refusal) => {
+                return Followed::Refused(refusal);
             }
             Linked::Address(next) => {
                 if next == head {
                     return Followed::Closed(count);
                 }
                 if count == room {
-                    return Followed::Stopped(Refusal::ListBufferShort);
+                    return Followed::Refused(Refusal::ListBufferShort);
                 }
-                put(out, count as usize, next);
+                base::put_number(out, count as usize, next);
                 node = next;
                 count += 1;
             }
         }
     }
-    after_last(next_node(rows, image, pagefile, directory, node), head)
+    after_last(next_node(rows, image, pagefile, space, node), head)
 }
 
 // What follows the 4,096th node: the head, or one node too many.
@@ -126,40 +135,32 @@ fn after_last(next: Linked, head: u64) -> Followed
     ensures { λ r. ⌜ r ≡ afterLast head next ⌝ }
 {
     match next {
-        Linked::Broken(fault) => Followed::Stopped(fault),
+        Linked::Refused(refusal) => Followed::Refused(refusal),
         Linked::Address(x) => {
             if x == head {
-                return Followed::Closed(4096);
+                return Followed::Closed(MOST_PROCESSES);
             }
-            Followed::Stopped(Refusal::TooManyProcesses)
+            Followed::Refused(Refusal::TooManyProcesses)
         }
     }
 }
 
-fn put(out: &mut [u64], at: usize, node: u64)
-    ensures { λ _. ⌜ now (out .exit) ≡ set (now (out .entry)) at node ⌝ }
-{
-    if at < out.len() {
-        out[at] = node;
-    }
-}
-
 // The node after a node, its back link compared.
-fn next_node(rows: &[u64], image: &[u8], pagefile: &[u8], directory: Frame, node: u64) -> Linked
+fn next_node(rows: &[u64], image: &[u8], pagefile: &[u8], space: AddressSpace, node: u64) -> Linked
     requires { ⌜ node % 8 ≡ 0 ⌝ }
-    ensures { λ r. ⌜ r ≡ nextOf (worldIn (now (rows .entry)) directory (now (image .entry)) (now (pagefile .entry))) node ⌝ }
+    ensures { λ r. ⌜ r ≡ nextNode (rowsWorld (now (rows .entry)) space (now (image .entry)) (now (pagefile .entry))) node ⌝ }
 {
-    match read_link(rows, image, pagefile, directory, node) {
-        Linked::Broken(fault) => Linked::Broken(fault),
+    match read_link(rows, image, pagefile, space, node) {
+        Linked::Refused(refusal) => Linked::Refused(refusal),
         Linked::Address(next) => {
             if next % 8 != 0 {
-                return Linked::Broken(Refusal::LinkUnaligned);
+                return Linked::Refused(Refusal::LinkUnaligned);
             }
-            match back_link(rows, image, pagefile, directory, next) {
-                Linked::Broken(fault) => Linked::Broken(fault),
+            match back_link(rows, image, pagefile, space, next) {
+                Linked::Refused(refusal) => Linked::Refused(refusal),
                 Linked::Address(back) => {
                     if back != node {
-                        return Linked::Broken(Refusal::BackLinkDiffers);
+                        return Linked::Refused(Refusal::BackLinkDiffers);
                     }
                     Linked::Address(next)
                 }
@@ -169,27 +170,41 @@ fn next_node(rows: &[u64], image: &[u8], pagefile: &[u8], directory: Frame, node
 }
 
 // A node's back word, 8 bytes on, which may lie in the next page or past the top.
-fn back_link(rows: &[u64], image: &[u8], pagefile: &[u8], directory: Frame, node: u64) -> Linked
+fn back_link(rows: &[u64], image: &[u8], pagefile: &[u8], space: AddressSpace, node: u64) -> Linked
     requires { ⌜ node % 8 ≡ 0 ⌝ }
-    ensures { λ r. ⌜ r ≡ linkOf (worldIn (now (rows .entry)) directory (now (image .entry)) (now (pagefile .entry))) (node + 8) ⌝ }
+    ensures { λ r. ⌜ r ≡ linkOf (rowsWorld (now (rows .entry)) space (now (image .entry)) (now (pagefile .entry))) (node + 8) ⌝ }
 {
-    if 18446744073709551607 < node {
-        return Linked::Broken(Refusal::NotCanonical);
+    if LAST_LINK < node {
+        return Linked::Refused(Refusal::NotCanonical);
     }
-    read_link(rows, image, pagefile, directory, node + 8)
+    read_link(rows, image, pagefile, space, node + 8)
 }
 
 // The word at an address.
-fn read_link(rows: &[u64], image: &[u8], pagefile: &[u8], directory: Frame, address: u64) -> Linked
+fn read_link(
+    rows: &[u64],
+    image: &[u8],
+    pagefile: &[u8],
+    space: AddressSpace,
+    address: u64,
+) -> Linked
     requires { ⌜ address % 8 ≡ 0 ⌝ }
-    ensures { λ r. ⌜ r ≡ linkOf (worldIn (now (rows .entry)) directory (now (image .entry)) (now (pagefile .entry))) address ⌝ }
+    ensures { λ r. ⌜ r ≡ linkOf (rowsWorld (now (rows .entry)) space (now (image .entry)) (now (pagefile .entry))) address ⌝ }
 {
-    let found = walk::resolve_in(rows, image, pagefile, directory, address);
+    let found = walk::resolve_in(rows, image, pagefile, space, address);
     let place = found.place;
+    link_at(image, pagefile, place)
+}
+
+// The word at a place, 0 in a page of zeros.
+fn link_at(image: &[u8], pagefile: &[u8], place: Place) -> Linked
+    requires { ⌜ WordInside (now image) (now pagefile) place ⌝ }
+    ensures { λ r. ⌜ r ≡ linkAt (now (image .entry)) (now (pagefile .entry)) place ⌝ }
+{
     match place {
         Place::Image(o) => Linked::Address(words::word_at(image, o)),
         Place::Pagefile(o) => Linked::Address(words::word_at(pagefile, o)),
         Place::Zeros => Linked::Address(0),
-        Place::Refused(fault) => Linked::Broken(fault),
+        Place::Refused(refusal) => Linked::Refused(refusal),
     }
 }

@@ -10,10 +10,12 @@ use borrow.Author.Tests.{lt-ltb, le-ltb, le-leb, lt-leb, eq-eqb, ne-eqb}
 use Rattle.base.proofs.Test.{Test, test, below, above}
 use Rattle.entry.specs.Pages.{frame}
 use Rattle.entry.specs.declared.Frame.{Frame}
+use Rattle.sheet.specs.declared.AddressSpace.{AddressSpace}
 use Rattle.walk.specs.Walk.{World, resolveOf}
-use Rattle.walk.specs.Rows.{worldIn, resolvedOf}
+use Rattle.walk.specs.Rows.{rowsWorld, resolvedOf}
 use Rattle.walk.specs.declared.Resolved.{Resolved}
-use Rattle.processor_block.specs.Block.{selfWord, prcbWord, directoryWord, wordsFit, NoneFit, selfWalk, isAt, isBlock}
+use Rattle.processor_block.specs.Block.{selfWord, prcbWord, directoryWord, wordsFit, selfWalk, isAt, isBlock}
+use Rattle.processor_block.specs.Inner.{NoneFit}
 
 -- ---- the place in the page, and the three words
 
@@ -109,9 +111,9 @@ module _ (w : World) (o : ℕ) where
 -- ---- the walk that the code takes is the block's own
 
 abbrev pub OwnWalk : List ℕ → List ℕ → List ℕ → ℕ → Resolved → Type 0
-OwnWalk rows image pagefile o r = (d : Frame) → r ≡ resolvedOf (selfWalk (worldIn rows d image pagefile) o)
+OwnWalk rows image pagefile o r = (space : AddressSpace) → r ≡ resolvedOf (selfWalk (rowsWorld rows space image pagefile) o)
 
 pub own-walk : (rows image pagefile : List ℕ) (o own word : ℕ) (f : Frame) (r : Resolved) → own ≡ selfWord image o → word ≡ directoryWord image o
-    → f ≡ frame (word / 4096 % 68719476736) → r ≡ resolvedOf (resolveOf 3 (worldIn rows f image pagefile) own) → OwnWalk rows image pagefile o r
+    → f ≡ frame (word / 4096 % 68719476736) → r ≡ resolvedOf (resolveOf 3 (rowsWorld rows (record { directory = f }) image pagefile) own) → OwnWalk rows image pagefile o r
 unfolding selfWalk
-own-walk rows image pagefile o own word f r e g h q d = q ∙ rw (h, e, g)
+own-walk rows image pagefile o own word f r e g h q space = q ∙ rw (h, e, g)

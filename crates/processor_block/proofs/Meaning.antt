@@ -10,12 +10,13 @@ use Rattle.entry.specs.Entry.{frameOf}
 use Rattle.entry.specs.declared.Frame.{Frame}
 use Rattle.walk.specs.Walk.{World, Grounded}
 use Rattle.walk.proofs.Ground.{Sound, grounded}
-use Rattle.address.specs.declared.Answer.{Answer}
-use Rattle.processor_block.specs.Block.{selfWord, directoryWord, wordsFit, under, selfWalk, isBlock, firstBlock, blockFrom, Held, Exact}
+use Rattle.case.specs.declared.Answer.{Answer}
+use Rattle.processor_block.specs.Block.{selfWord, directoryWord, wordsFit, withDirectory, selfWalk, isBlock, firstBlock, blockFrom}
+use Rattle.processor_block.specs.Call.{GroundedBlock, ExactBlock}
 use Rattle.processor_block.proofs.Fitting.{fit-near, whole, past-image, unfit}
 
 module _ (w : World) (sound : Sound w) (pages : length (w .image) % 4096 ≡ 0) where
-  sound-under : (d : Frame) → Sound (under d w)
+  sound-under : (d : Frame) → Sound (withDirectory d w)
   sound-under d = record { whole = sound .whole }
 
   module _ (o : ℕ) (h : isBlock w o ≡ true) where
@@ -27,11 +28,11 @@ module _ (w : World) (sound : Sound w) (pages : length (w .image) % 4096 ≡ 0) 
     fits true e = e
     fits false e = absurd (false≢true (sym (unfit w o e) ∙ h))
 
-    self-grounded : Grounded (under (frameOf (directoryWord (w .image) o)) w) (selfWalk w o)
+    self-grounded : Grounded (withDirectory (frameOf (directoryWord (w .image) o)) w) (selfWalk w o)
     unfolding selfWalk
-    self-grounded = grounded (under (frameOf (directoryWord (w .image) o)) w) (sound-under (frameOf (directoryWord (w .image) o))) (selfWord (w .image) o)
+    self-grounded = grounded (withDirectory (frameOf (directoryWord (w .image) o)) w) (sound-under (frameOf (directoryWord (w .image) o))) (selfWord (w .image) o)
 
-    held : Held w o
+    held : GroundedBlock w o
     held = record {
       holds = h;
       inside = whole o (length (w .image)) (in-image (test o (length (w .image)))) pages (fit-near (w .image) o (fits (wordsFit (w .image) o) refl));
@@ -39,7 +40,7 @@ module _ (w : World) (sound : Sound w) (pages : length (w .image) % 4096 ≡ 0) 
     }
 
   -- n offsets from o on reach the image's end
-  exact-first : (n o : ℕ) → length (w .image) ≤ o + n → Exact w o (firstBlock n w o)
+  exact-first : (n o : ℕ) → length (w .image) ≤ o + n → ExactBlock w o (firstBlock n w o)
   unfolding firstBlock
   exact-first zero o l = record {
     found = λ e. absurd (omega (arith, e));
@@ -52,7 +53,7 @@ module _ (w : World) (sound : Sound w) (pages : length (w .image) % 4096 ≡ 0) 
       here : Answer
       here = record { number = 1; offset = o; entries = length (selfWalk w o .trace) }
 
-      go : (b : Bool) → isBlock w o ≡ b → Exact w (suc o) (firstBlock n w (suc o)) → Exact w o (if b then here else firstBlock n w (suc o))
+      go : (b : Bool) → isBlock w o ≡ b → ExactBlock w (suc o) (firstBlock n w (suc o)) → ExactBlock w o (if b then here else firstBlock n w (suc o))
       go true e q = record {
         found = λ f. (omega arith, (held o e, refl));
         first = λ f p h g. absurd (omega arith);
@@ -72,6 +73,6 @@ module _ (w : World) (sound : Sound w) (pages : length (w .image) % 4096 ≡ 0) 
               let z : p ≡ o = omega arith in
               rw z e
 
-  pub exact-from : (from : ℕ) → Exact w from (blockFrom w from)
+  pub exact-from : (from : ℕ) → ExactBlock w from (blockFrom w from)
   unfolding blockFrom
   exact-from from = exact-first (length (w .image) - from) from (omega arith)

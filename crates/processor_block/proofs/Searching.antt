@@ -8,13 +8,14 @@ use native.Mathlib.Omega.{arith}
 use lib.ListN.{length}
 use Rattle.base.specs.declared.Refusal.the-variants.{NoProcessorBlock}
 use Rattle.base.proofs.Test.{Test, test, below, above}
-use Rattle.entry.specs.declared.Frame.{Frame}
+use Rattle.sheet.specs.declared.AddressSpace.{AddressSpace}
 use Rattle.walk.specs.Walk.{World}
-use Rattle.walk.specs.Rows.{worldIn}
+use Rattle.walk.specs.Rows.{rowsWorld}
 use Rattle.walk.specs.declared.Resolved.{Resolved}
-use Rattle.address.specs.Address.{refusal}
-use Rattle.address.specs.declared.Answer.{Answer}
-use Rattle.processor_block.specs.Block.{selfWalk, wordsFit, NoneFit, isAt, isBlock, firstBlock, blockFrom, Searches}
+use Rattle.case.specs.Answer.{refusal}
+use Rattle.case.specs.declared.Answer.{Answer}
+use Rattle.processor_block.specs.Block.{selfWalk, wordsFit, isAt, isBlock, firstBlock, blockFrom}
+use Rattle.processor_block.specs.Inner.{NoneFit, Searches}
 use Rattle.processor_block.proofs.Fitting.{unaligned, unfit, elsewhere, block-here, OwnWalk}
 
 module _ (w : World) where
@@ -61,33 +62,33 @@ module _ (w : World) where
 -- ---- what the search holds at word i: the first block of the whole is the first from there on
 
 pub record Searching (rows image pagefile : List ℕ) (from i : ℕ) : Type 0 where
-  pub rest : (d : Frame) → blockFrom (worldIn rows d image pagefile) from ≡ firstBlock (length image - 8 * i) (worldIn rows d image pagefile) (8 * i)
+  pub rest : (space : AddressSpace) → blockFrom (rowsWorld rows space image pagefile) from ≡ firstBlock (length image - 8 * i) (rowsWorld rows space image pagefile) (8 * i)
 
 pub search-begins : {rows image pagefile : List ℕ} {from i : ℕ} → i ≡ (from + 7) / 8 → Searching rows image pagefile from i
-search-begins {rows} {image} {pagefile} {from} {i} e = record { rest = λ d. first-word (worldIn rows d image pagefile) from i e }
+search-begins {rows} {image} {pagefile} {from} {i} e = record { rest = λ space. first-word (rowsWorld rows space image pagefile) from i e }
 
 module _ {rows image pagefile : List ℕ} {from i : ℕ} (q : Searching rows image pagefile from i) where
-  passed : ((d : Frame) → isBlock (worldIn rows d image pagefile) (8 * i) ≡ false) → Searching rows image pagefile from (i + 1)
-  passed h = record { rest = λ d. q .rest d ∙ next-word (worldIn rows d image pagefile) (length image) i (h d) }
+  passed : ((space : AddressSpace) → isBlock (rowsWorld rows space image pagefile) (8 * i) ≡ false) → Searching rows image pagefile from (i + 1)
+  passed h = record { rest = λ space. q .rest space ∙ next-word (rowsWorld rows space image pagefile) (length image) i (h space) }
 
   pub words-differ : wordsFit image (8 * i) ≡ false → Searching rows image pagefile from (i + 1)
-  words-differ h = passed (λ d. unfit (worldIn rows d image pagefile) (8 * i) h)
+  words-differ h = passed (λ space. unfit (rowsWorld rows space image pagefile) (8 * i) h)
 
   pub search-ends : length image % 4096 ≡ 0 → length image / 8 ≤ i → (r : Answer) → r ≡ refusal NoProcessorBlock → Searches rows image pagefile from r
-  search-ends e h r f d = f ∙ sym (q .rest d ∙ no-words-left (worldIn rows d image pagefile) i e h)
+  search-ends e h r f space = f ∙ sym (q .rest space ∙ no-words-left (rowsWorld rows space image pagefile) i e h)
 
   module _ (r : Resolved) (e : OwnWalk rows image pagefile (8 * i) r) where
-    at-self : (b : Bool) → isAt (8 * i) (r .place) ≡ b → (d : Frame) → isAt (8 * i) (selfWalk (worldIn rows d image pagefile) (8 * i) .place) ≡ b
-    at-self b h d = ap (λ (z : Resolved). isAt (8 * i) (z .place)) (sym (e d)) ∙ h
+    at-self : (b : Bool) → isAt (8 * i) (r .place) ≡ b → (space : AddressSpace) → isAt (8 * i) (selfWalk (rowsWorld rows space image pagefile) (8 * i) .place) ≡ b
+    at-self b h space = ap (λ (z : Resolved). isAt (8 * i) (z .place)) (sym (e space)) ∙ h
 
     pub leads-elsewhere : isAt (8 * i) (r .place) ≡ false → Searching rows image pagefile from (i + 1)
-    leads-elsewhere h = passed (λ d. elsewhere (worldIn rows d image pagefile) (8 * i) (at-self false h d))
+    leads-elsewhere h = passed (λ space. elsewhere (rowsWorld rows space image pagefile) (8 * i) (at-self false h space))
 
     pub leads-back : i < length image / 8 → wordsFit image (8 * i) ≡ true → isAt (8 * i) (r .place) ≡ true
         → Searches rows image pagefile from (record { number = 1; offset = 8 * i; entries = r .entries })
-    leads-back l f h d =
-        ap (λ (z : Resolved). record { number = 1; offset = 8 * i; entries = z .entries }) (e d)
-        ∙ sym (q .rest d ∙ found-block (worldIn rows d image pagefile) (length image) (8 * i) (omega arith) (block-here (worldIn rows d image pagefile) (8 * i) (omega arith) (omega arith) f (at-self true h d)))
+    leads-back l f h space =
+        ap (λ (z : Resolved). record { number = 1; offset = 8 * i; entries = z .entries }) (e space)
+        ∙ sym (q .rest space ∙ found-block (rowsWorld rows space image pagefile) (length image) (8 * i) (omega arith) (block-here (rowsWorld rows space image pagefile) (8 * i) (omega arith) (omega arith) f (at-self true h space)))
 
 -- past words that do not fit
 pub none-between : {rows image pagefile : List ℕ} {from i r : ℕ} → Searching rows image pagefile from i → NoneFit image i r → Searching rows image pagefile from r

@@ -1,32 +1,44 @@
 // The search of the image for a processor block.
-use address::Answer;
 use base::Refusal;
+use case::Answer;
+use case::Opened;
 use entry::Frame;
-use sheet::Outcome;
+use sheet::AddressSpace;
 use walk::Place;
 ghost use mathlib.Core.Path.{_≡_};
 ghost use Prim.Native.Nat.{_+_, _/_, _%_, _≤_, _<_};
 ghost use lib.ListN.{length};
-ghost use Rattle.processor_block.specs.Block.{wordsFit, isAt, BlockAnswer, Searches, NoneFit};
+ghost use Rattle.case.specs.Case.{caseOf};
+ghost use Rattle.case.specs.Inner.{rowNumbers};
+ghost use Rattle.processor_block.specs.Block.{wordsFit, isAt};
+ghost use Rattle.processor_block.specs.Call.{BlockAnswer};
+ghost use Rattle.processor_block.specs.Inner.{Searches, NoneFit};
+
+// Self and CurrentPrcb exceed this (01, after document 003).
+const KERNEL_FLOOR: u64 = 0xFFFF000000000000;
+// Bits 48-51 of the directory word must be 0.
+const BIT_48: u64 = 0x1000000000000;
 
 // The first processor block not below an offset: number 1, its offset, and the entries read for its Self.
 pub fn processor_block(sheet: &[u8], image: &[u8], pagefile: &[u8], from: u64) -> Answer
-    ensures { λ r. ⌜ BlockAnswer (now (sheet .entry)) (now (image .entry)) (now (pagefile .entry)) from r ⌝ }
+    ensures { λ r. ⌜ BlockAnswer (caseOf (now (sheet .entry)) (now (image .entry)) (now (pagefile .entry))) from r ⌝ }
 {
-    let checked = sheet::check_sheet(sheet, image.len() as u64, pagefile.len() as u64);
-    let outcome = checked.outcome;
-    match outcome {
-        Outcome::Refused(fault) => address::refuse(fault),
-        Outcome::Accepted => {
-            let table = checked.runs;
-            let rows = table.rows;
-            let n = sheet::row_numbers(table.count);
-            search(&rows[..n], image, pagefile, from)
-        }
+    let mut rows = [0u64; 96];
+    search_over(sheet, image, pagefile, &mut rows, from)
+}
+
+// The same, with the rows of the runs over lent numbers.
+fn search_over(sheet: &[u8], image: &[u8], pagefile: &[u8], rows: &mut [u64], from: u64) -> Answer
+    requires { ⌜ rowNumbers (caseOf (now sheet) (now image) (now pagefile)) ≤ length (now rows) ⌝ }
+    ensures { λ r. ⌜ BlockAnswer (caseOf (now (sheet .entry)) (now (image .entry)) (now (pagefile .entry))) from r ⌝ }
+{
+    match case::open_case(sheet, image, pagefile, rows) {
+        Opened::Refused(refusal) => case::refuse(refusal),
+        Opened::Ready(_, n) => search(&rows[..n], image, pagefile, from),
     }
 }
 
-// The same of a case whose sheet was read: an image of whole pages.
+// The same of an opened case, whose image has whole pages.
 fn search(rows: &[u64], image: &[u8], pagefile: &[u8], from: u64) -> Answer
     requires { ⌜ length (now image) % 4096 ≡ 0 ⌝ }
     ensures { λ r. ⌜ Searches (now (rows .entry)) (now (image .entry)) (now (pagefile .entry)) from r ⌝ }
@@ -38,7 +50,8 @@ fn search(rows: &[u64], image: &[u8], pagefile: &[u8], from: u64) -> Answer
         if words_fit(image, o) {
             let own = words::word_at(image, o + 0x18);
             let directory = Frame::of_entry(words::word_at(image, o + 0x1D0));
-            let found = walk::resolve_in(rows, image, pagefile, directory, own);
+            let space = AddressSpace { directory };
+            let found = walk::resolve_in(rows, image, pagefile, space, own);
             let entries = found.entries;
             let place = found.place;
             if is_at(place, o) {
@@ -51,7 +64,7 @@ fn search(rows: &[u64], image: &[u8], pagefile: &[u8], from: u64) -> Answer
         }
         i = next_pair(image, i + 1);
     }
-    address::refuse(Refusal::NoProcessorBlock)
+    case::refuse(Refusal::NoProcessorBlock)
 }
 
 // How many words begin before an offset.
@@ -64,7 +77,7 @@ fn words_before(from: u64) -> u64
     from / 8 + 1
 }
 
-// Past words that begin no block: to the first whose Self is 0x180 less than the word behind, or to the last few.
+// Past words that begin no block: to the first whose Self is 0x180 less than the word after it, or to the last few.
 fn next_pair(image: &[u8], from: u64) -> u64
     ensures { λ r. ⌜ NoneFit (now (image .entry)) from r ⌝ }
 {
@@ -94,17 +107,17 @@ fn words_fit(image: &[u8], o: u64) -> bool
         return false;
     }
     let own = words::word_at(image, o + 0x18);
-    if own <= 0xFFFF000000000000 {
+    if own <= KERNEL_FLOOR {
         return false;
     }
     let prcb = words::word_at(image, o + 0x20);
-    if prcb <= 0xFFFF000000000000 {
+    if prcb <= KERNEL_FLOOR {
         return false;
     }
     if prcb - 0x180 != own {
         return false;
     }
-    words::word_at(image, o + 0x1D0) / 281474976710656 % 16 == 0
+    words::word_at(image, o + 0x1D0) / BIT_48 % 16 == 0
 }
 
 fn is_at(place: Place, o: u64) -> bool

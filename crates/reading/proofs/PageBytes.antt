@@ -12,10 +12,10 @@ use borrow.Author.Tests.{le-ltb}
 use Rattle.base.specs.declared.Refusal.{Refusal}
 use Rattle.base.specs.declared.Refusal.the-variants.{NotCanonical}
 use Rattle.base.proofs.Overlay.{sets-append}
-use Rattle.entry.specs.declared.Frame.{Frame}
+use Rattle.sheet.specs.declared.AddressSpace.{AddressSpace}
 use Rattle.walk.specs.Walk.{World, resolveOf}
 use Rattle.entry.specs.Addresses.{reachable}
-use Rattle.walk.specs.Rows.{worldIn, nextOf, resolvedOf}
+use Rattle.walk.specs.Rows.{rowsWorld, nextOf, resolvedOf}
 use Rattle.walk.specs.declared.Place.{Place}
 use Rattle.walk.specs.declared.Place.the-variants.{Image, Pagefile, Zeros, Refused}
 use Rattle.walk.specs.declared.Resolved.{Resolved}
@@ -23,9 +23,9 @@ use Rattle.walk.proofs.SamePage.{moved, same-page}
 use Rattle.walk.proofs.Ground.{Sound, At, resolve-at}
 use Rattle.walk.proofs.Cycle.{body, sound-rows}
 use Rattle.reading.specs.Bytes.{Bytes, bytes, refused, before, byteThen, bytesOf}
-use Rattle.reading.specs.Pieces.{pieceOf, PieceInside, filledOf, Laid, Fills}
+use Rattle.reading.specs.Inner.{pieceOf, PieceInside, filledOf, BytesLaid, FilledWith}
 use Rattle.reading.specs.declared.Filled.{Filled}
-use Rattle.reading.specs.declared.Filled.the-variants.{AllRead, Stopped}
+use Rattle.reading.specs.declared.Filled.the-variants as filled-as
 
 -- ---- the next byte of the page
 
@@ -148,7 +148,7 @@ module _ {w : World} {a n : ℕ} {old : List ℕ} {i : ℕ} {zeros : Bool} {out 
   pub filling-long : length out ≡ length old
   filling-long = rw (q .laid) (length-sets old 0 (q .done))
 
-  pub at-top : i < n → 2 ^ 64 ≤ a + i → Fills (bytesOf n w a) 0 old (Stopped NotCanonical) out
+  pub at-top : i < n → 2 ^ 64 ≤ a + i → FilledWith (bytesOf n w a) 0 old (filled-as.Refused NotCanonical) out
   at-top h t =
       let e : n - i ≡ suc (n - i - 1) = omega arith in
       let none : bytesOf n w a ≡ refused NotCanonical = q .same ∙ rw (e, past-top w (n - i - 1) (a + i) t) in
@@ -169,21 +169,21 @@ module _ {w : World} {a n : ℕ} {old : List ℕ} {i : ℕ} {zeros : Bool} {out 
         ∙ ap (λ (k : ℕ). before (q .done) zeros (andThen (pieceOf (w .image) (w .pagefile) (suc (m - 1)) place) (bytesOf (n - (i + m)) w k))) g
         ∙ ap (λ (k : ℕ). before (q .done) zeros (andThen (pieceOf (w .image) (w .pagefile) k place) (bytesOf (n - (i + m)) w (a + (i + m))))) (sym e)
 
-    module _ (r : Filled) (new : List ℕ) (f : Fills (pieceOf (w .image) (w .pagefile) m place) i out r new) where
-      pub page-stopped : (x : Refusal) → r ≡ Stopped x → Fills (bytesOf n w a) 0 old (Stopped x) new
-      page-stopped x e = go (pieceOf (w .image) (w .pagefile) m place) refl (sym (f .answer) ∙ e) (f .buffer)
+    module _ (r : Filled) (new : List ℕ) (f : FilledWith (pieceOf (w .image) (w .pagefile) m place) i out r new) where
+      pub page-refused : (x : Refusal) → r ≡ filled-as.Refused x → FilledWith (bytesOf n w a) 0 old (filled-as.Refused x) new
+      page-refused x e = go (pieceOf (w .image) (w .pagefile) m place) refl (sym (f .answer) ∙ e) (f .buffer)
         where
-          go : (b : Bytes) → pieceOf (w .image) (w .pagefile) m place ≡ b → filledOf b ≡ Stopped x → Laid out i b new → Fills (bytesOf n w a) 0 old (Stopped x) new
+          go : (b : Bytes) → pieceOf (w .image) (w .pagefile) m place ≡ b → filledOf b ≡ filled-as.Refused x → BytesLaid out i b new → FilledWith (bytesOf n w a) 0 old (filled-as.Refused x) new
           go (bytes xs z) h g l = absurd (let z : _≡_ {A = ℕ} 0 1 = cc in omega arith)
           go (refused y) h g l =
               let same : y ≡ x = cc in
               let none : bytesOf n w a ≡ refused x = split ∙ rw (h, same) in
               record { answer = rw none; buffer = rw none (l ∙ filling-long) }
 
-      pub page-laid : (z : Bool) → r ≡ AllRead z → PieceInside (w .image) (w .pagefile) m place → Filling w a n old (i + m) (zeros || z) new
+      pub page-laid : (z : Bool) → r ≡ filled-as.AllRead z → PieceInside (w .image) (w .pagefile) m place → Filling w a n old (i + m) (zeros || z) new
       page-laid z e inside = go (pieceOf (w .image) (w .pagefile) m place) refl (sym (f .answer) ∙ e) (f .buffer)
         where
-          go : (b : Bytes) → pieceOf (w .image) (w .pagefile) m place ≡ b → filledOf b ≡ AllRead z → Laid out i b new → Filling w a n old (i + m) (zeros || z) new
+          go : (b : Bytes) → pieceOf (w .image) (w .pagefile) m place ≡ b → filledOf b ≡ filled-as.AllRead z → BytesLaid out i b new → Filling w a n old (i + m) (zeros || z) new
           go (refused y) h g l = absurd (let z : _≡_ {A = ℕ} 0 1 = cc in omega arith)
           go (bytes xs y) h g l =
               let same : y ≡ z = cc in
@@ -199,7 +199,7 @@ module _ {w : World} {a n : ℕ} {old : List ℕ} {i : ℕ} {zeros : Bool} {out 
               here : length (q .done) ≡ 0 + length (q .done)
               here = omega arith
 
-  pub filled : n ≤ i → Fills (bytesOf n w a) 0 old (AllRead zeros) out
+  pub filled : n ≤ i → FilledWith (bytesOf n w a) 0 old (filled-as.AllRead zeros) out
   unfolding bytesOf
   filled h =
       let e : n - i ≡ 0 = omega arith in
@@ -211,24 +211,24 @@ module _ {w : World} {a n : ℕ} {old : List ℕ} {i : ℕ} {zeros : Bool} {out 
       or-false false = refl
 
 -- a piece within the page lies in its file
-pub piece-at : (rows : List ℕ) (d : Frame) (image pagefile : List ℕ) (a m : ℕ) → a % 4096 + m ≤ 4096 → PieceInside image pagefile m (resolveOf 3 (worldIn rows d image pagefile) a .place)
-piece-at rows d image pagefile a m h =
-    go (resolveOf 3 (worldIn rows d image pagefile) a .place) (resolve-at (worldIn rows d image pagefile) (sound-rows rows d image pagefile) 3 a)
+pub piece-at : (rows : List ℕ) (space : AddressSpace) (image pagefile : List ℕ) (a m : ℕ) → a % 4096 + m ≤ 4096 → PieceInside image pagefile m (resolveOf 3 (rowsWorld rows space image pagefile) a .place)
+piece-at rows space image pagefile a m h =
+    go (resolveOf 3 (rowsWorld rows space image pagefile) a .place) (resolve-at (rowsWorld rows space image pagefile) (sound-rows rows space image pagefile) 3 a)
   where
-    go : (p : Place) → At (worldIn rows d image pagefile) a p → PieceInside image pagefile m p
+    go : (p : Place) → At (rowsWorld rows space image pagefile) a p → PieceInside image pagefile m p
     go (Image o) g = omega (arith, g .0, g .1)
     go (Pagefile o) g = omega (arith, g .0, g .1)
     go Zeros g = tt
     go (Refused r) g = tt
 
-pub piece-inside : (rows : List ℕ) (d : Frame) (image pagefile : List ℕ) (a m : ℕ) (v : Resolved) → v ≡ resolvedOf (resolveOf 3 (worldIn rows d image pagefile) a) → a % 4096 + m ≤ 4096 → PieceInside image pagefile m (v .place)
-piece-inside rows d image pagefile a m v e h = rw (ap (λ (z : Resolved). z .place) e) (piece-at rows d image pagefile a m h)
+pub piece-inside : (rows : List ℕ) (space : AddressSpace) (image pagefile : List ℕ) (a m : ℕ) (v : Resolved) → v ≡ resolvedOf (resolveOf 3 (rowsWorld rows space image pagefile) a) → a % 4096 + m ≤ 4096 → PieceInside image pagefile m (v .place)
+piece-inside rows space image pagefile a m v e h = rw (ap (λ (z : Resolved). z .place) e) (piece-at rows space image pagefile a m h)
 
 -- filling keeps the buffer's length
-pub fills-long : {b : Bytes} {at : ℕ} {old : List ℕ} {r : Filled} {new : List ℕ} → Fills b at old r new → length new ≡ length old
+pub fills-long : {b : Bytes} {at : ℕ} {old : List ℕ} {r : Filled} {new : List ℕ} → FilledWith b at old r new → length new ≡ length old
 fills-long {b} {at} {old} {r} {new} f = go b (f .buffer)
   where
-    go : (b : Bytes) → Laid old at b new → length new ≡ length old
+    go : (b : Bytes) → BytesLaid old at b new → length new ≡ length old
     go (bytes xs z) l = rw l (length-sets old at xs)
     go (refused x) l = l
 
@@ -240,7 +240,7 @@ pub page-piece : (a m : ℕ) → m ≤ 4096 - a % 4096 → a % 4096 + m ≤ 4096
 page-piece a m h = omega arith
 
 -- laying at the place that the code resolved
-pub at-place : (rows : List ℕ) (d : Frame) (image pagefile : List ℕ) (a m : ℕ) (v : Resolved) → v ≡ resolvedOf (resolveOf 3 (worldIn rows d image pagefile) a)
-    → {at : ℕ} {old : List ℕ} (r : Filled) (new : List ℕ) → Fills (pieceOf image pagefile m (v .place)) at old r new
-    → Fills (pieceOf image pagefile m (resolveOf 3 (worldIn rows d image pagefile) a .place)) at old r new
-at-place rows d image pagefile a m v e r new f = rw (ap (λ (z : Resolved). z .place) e) at f
+pub at-place : (rows : List ℕ) (space : AddressSpace) (image pagefile : List ℕ) (a m : ℕ) (v : Resolved) → v ≡ resolvedOf (resolveOf 3 (rowsWorld rows space image pagefile) a)
+    → {at : ℕ} {old : List ℕ} (r : Filled) (new : List ℕ) → FilledWith (pieceOf image pagefile m (v .place)) at old r new
+    → FilledWith (pieceOf image pagefile m (resolveOf 3 (rowsWorld rows space image pagefile) a .place)) at old r new
+at-place rows space image pagefile a m v e r new f = rw (ap (λ (z : Resolved). z .place) e) at f

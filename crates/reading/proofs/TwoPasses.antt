@@ -9,20 +9,18 @@ use lib.Seq.{sets}
 use borrow.Author.Tests.{lt-ltb, le-ltb}
 use Rattle.base.specs.declared.Refusal.{Refusal}
 use Rattle.base.specs.declared.Refusal.the-variants.{ReadBufferShort}
-use Rattle.sheet.specs.Sheet.{Check, accepted}
-use Rattle.sheet.specs.Sheet as sheet
-use Rattle.sheet.specs.Answer.{RowNumbers}
-use Rattle.sheet.specs.declared.Checked.{Checked}
+use Rattle.varint.specs.Reader.{bad}
+use Rattle.sheet.specs.declared.AddressSpace.{AddressSpace}
 use Rattle.walk.specs.Walk.{World, worldOf, resolveOf, Inside}
-use Rattle.walk.specs.Rows.{worldIn}
+use Rattle.walk.specs.Rows.{rowsWorld}
 use Rattle.walk.proofs.Ground.{Sound, resolve-at, in-file}
-use Rattle.walk.proofs.CaseWorld.{Opened}
-use Rattle.address.specs.Case.{checkOf}
+use Rattle.case.specs.Case.{Case, checkOf}
+use Rattle.case.proofs.Opening.{Accepted}
 use Rattle.reading.specs.Bytes.{Bytes, bytes, refused, bytesOf}
-use Rattle.reading.specs.Read.{ReadOutcome, refusedBytes, doneBytes, readAll, readOf, ReadAnswer}
-use Rattle.reading.specs.Pieces.{filledOf, Laid, Fills}
+use Rattle.reading.specs.Call.{ReadOutcome, refusedBytes, doneBytes, readAll, readOf, ReadAnswer}
+use Rattle.reading.specs.Inner.{filledOf, BytesLaid, FilledWith}
 use Rattle.reading.specs.declared.Filled.{Filled}
-use Rattle.reading.specs.declared.Filled.the-variants.{AllRead, Stopped}
+use Rattle.reading.specs.declared.Filled.the-variants as filled-as
 use Rattle.reading.specs.declared.BytesRead.{BytesRead}
 use Rattle.reading.proofs.PageBytes.{fills-long}
 
@@ -30,47 +28,47 @@ empty : (l : List ℕ) → length l ≡ 0 → l ≡ []
 empty [] e = refl
 empty (x ∷ l) e = absurd (omega arith)
 
-module _ (b : Bytes) (n : ℕ) (old last : List ℕ) (r : Filled) (f : Fills b 0 [] r last) where
+module _ (b : Bytes) (n : ℕ) (old last : List ℕ) (r : Filled) (f : FilledWith b 0 [] r last) where
   nothing : last ≡ []
   nothing = empty last (fills-long f)
 
-  pub refused-read : (x : Refusal) → r ≡ Stopped x → (answer : BytesRead) → answer ≡ refusedBytes x → record { answer = answer; buffer = last ++ old } ≡ readAll old n b
+  pub refused-read : (x : Refusal) → r ≡ filled-as.Refused x → (answer : BytesRead) → answer ≡ refusedBytes x → record { answer = answer; buffer = last ++ old } ≡ readAll old n b
   refused-read x e answer g = rw (g, nothing) (go b (sym (f .answer) ∙ e))
     where
-      go : (b : Bytes) → filledOf b ≡ Stopped x → record { answer = refusedBytes x; buffer = old } ≡ readAll old n b
+      go : (b : Bytes) → filledOf b ≡ filled-as.Refused x → record { answer = refusedBytes x; buffer = old } ≡ readAll old n b
       go (bytes xs z) h = absurd (let z : _≡_ {A = ℕ} 0 1 = cc in omega arith)
       go (refused y) h =
           let same : y ≡ x = cc in
           rw same
 
-  pub done-read : (z : Bool) → r ≡ AllRead z → (r₂ : Filled) (new : List ℕ) → Fills b 0 (last ++ old) r₂ new → (answer : BytesRead) → answer ≡ doneBytes n z
+  pub done-read : (z : Bool) → r ≡ filled-as.AllRead z → (r₂ : Filled) (new : List ℕ) → FilledWith b 0 (last ++ old) r₂ new → (answer : BytesRead) → answer ≡ doneBytes n z
       → record { answer = answer; buffer = new } ≡ readAll old n b
   done-read z e r₂ new q answer g = rw g (go b (sym (f .answer) ∙ e) (rw nothing at (q .buffer)))
     where
-      go : (b : Bytes) → filledOf b ≡ AllRead z → Laid old 0 b new → record { answer = doneBytes n z; buffer = new } ≡ readAll old n b
+      go : (b : Bytes) → filledOf b ≡ filled-as.AllRead z → BytesLaid old 0 b new → record { answer = doneBytes n z; buffer = new } ≡ readAll old n b
       go (bytes xs y) h l =
           let same : y ≡ z = cc in
           rw (same, l)
       go (refused y) h l = absurd (let z : _≡_ {A = ℕ} 0 1 = cc in omega arith)
 
-module _ (sh image pagefile : List ℕ) (a n : ℕ) (old : List ℕ) where
-  pub refused-sheet-read : (x : Refusal) → checkOf sh image pagefile ≡ sheet.refused x → (r : BytesRead) → r ≡ refusedBytes x → ReadAnswer sh image pagefile a n old r old
+module _ (c : Case) (a n : ℕ) (old : List ℕ) where
+  pub refused-case-read : (x : Refusal) → checkOf c ≡ bad x → (r : BytesRead) → r ≡ refusedBytes x → ReadAnswer c a n old r old
   unfolding readOf
-  refused-sheet-read x e r g = record { same = rw (e, g); found = rw e tt }
+  refused-case-read x e r g = record { same = rw (e, g); found = rw e tt }
 
-  module _ (v : Checked) (q : Opened sh image pagefile v) where
+  module _ (space : AddressSpace) (k : ℕ) (rows : List ℕ) (q : Accepted c space k rows) where
     abbrev world : World
-    world = worldOf (q .case) image pagefile
+    world = worldOf (q .sheet) (c .image) (c .pagefile)
 
     found-inside : (k : ℕ) → Inside world (resolveOf 3 world (a + k) .place)
     found-inside k = in-file world (q .sound) (a + k) (resolveOf 3 world (a + k) .place) (resolve-at world (q .sound) 3 (a + k))
 
-    pub short-read : length old < n → (r : BytesRead) → r ≡ refusedBytes ReadBufferShort → ReadAnswer sh image pagefile a n old r old
+    pub short-read : length old < n → (r : BytesRead) → r ≡ refusedBytes ReadBufferShort → ReadAnswer c a n old r old
     unfolding readOf
     short-read h r g = record { same = rw (q .check, g, lt-ltb (length old) n h); found = rw (q .check) found-inside }
 
-    pub full-read : n ≤ length old → (k : ℕ) → RowNumbers (v .runs .count) k → (r : BytesRead) (new : List ℕ)
-        → record { answer = r; buffer = new } ≡ readAll old n (bytesOf n (worldIn (take k (v .runs .rows)) (v .directory) image pagefile) a)
-        → ReadAnswer sh image pagefile a n old r new
+    pub full-read : n ≤ length old → (r : BytesRead) (new : List ℕ)
+        → record { answer = r; buffer = new } ≡ readAll old n (bytesOf n (rowsWorld (take k rows) space (c .image) (c .pagefile)) a)
+        → ReadAnswer c a n old r new
     unfolding readOf
-    full-read h k m r new e = record { same = rw (q .check, le-ltb (length old) n h) (rw (q .world k m) at e); found = rw (q .check) found-inside }
+    full-read h r new e = record { same = rw (q .check, le-ltb (length old) n h) (rw (q .world) at e); found = rw (q .check) found-inside }

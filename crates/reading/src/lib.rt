@@ -1,17 +1,23 @@
 // The read call: bytes of a case from an address on.
 use base::Refusal;
-use entry::Frame;
-use sheet::Outcome;
+use case::Opened;
+use sheet::AddressSpace;
 use walk::Place;
 ghost use mathlib.Core.Path.{_≡_};
 ghost use mathlib.Core.Bool.{_||_};
-ghost use Prim.Native.Nat.{_+_, _≤_, min};
+ghost use Prim.Native.Nat.{_+_, _%_, _≤_, min};
 ghost use lib.ListN.{length, take, drop, replicate};
 ghost use lib.Seq.{sets};
-ghost use Rattle.walk.specs.Rows.{worldIn};
+ghost use Rattle.walk.specs.Walk.{resolveOf};
+ghost use Rattle.walk.specs.Rows.{rowsWorld};
+ghost use Rattle.case.specs.Case.{caseOf};
+ghost use Rattle.case.specs.Inner.{rowNumbers};
 ghost use Rattle.reading.specs.Bytes.{bytesOf};
-ghost use Rattle.reading.specs.Read.{readAll, refusedBytes, doneBytes, ReadAnswer};
-ghost use Rattle.reading.specs.Pieces.{pieceOf, PieceInside, Fills, Room};
+ghost use Rattle.reading.specs.Call.{readAll, refusedBytes, doneBytes, ReadAnswer};
+ghost use Rattle.reading.specs.Inner.{pieceOf, PieceInside, FilledWith, Room};
+
+// The last address.
+const TOP_ADDRESS: u64 = 0xFFFFFFFFFFFFFFFF;
 
 // 01's number, how many bytes were read, and 1 if one of them came from a page of zeros.
 #[repr(C)]
@@ -24,7 +30,7 @@ pub struct BytesRead {
 // All bytes, and whether one came from a page of zeros; or the refusal of the first byte that has one.
 pub enum Filled {
     AllRead(bool),
-    Stopped(Refusal),
+    Refused(Refusal),
 }
 
 // n bytes from an address on into the lent buffer.
@@ -36,60 +42,63 @@ pub fn read_bytes(
     n: u64,
     out: &mut [u8],
 ) -> BytesRead
-    ensures { λ r. ⌜ ReadAnswer (now (sheet .entry)) (now (image .entry)) (now (pagefile .entry)) address n (now (out .entry)) r (now (out .exit)) ⌝ }
+    ensures { λ r. ⌜ ReadAnswer (caseOf (now (sheet .entry)) (now (image .entry)) (now (pagefile .entry))) address n (now (out .entry)) r (now (out .exit)) ⌝ }
 {
-    let checked = sheet::check_sheet(sheet, image.len() as u64, pagefile.len() as u64);
-    let outcome = checked.outcome;
-    match outcome {
-        Outcome::Refused(fault) => refuse(fault),
-        Outcome::Accepted => {
-            if (out.len() as u64) < n {
-                return refuse(Refusal::ReadBufferShort);
-            }
-            let table = checked.runs;
-            let rows = table.rows;
-            let k = sheet::row_numbers(table.count);
-            let directory = checked.directory;
-            read_in(&rows[..k], image, pagefile, directory, address, n, out)
-        }
-    }
+    let mut rows = [0u64; 96];
+    read_over(sheet, image, pagefile, &mut rows, address, n, out)
 }
 
-// The same of a case whose sheet was read: a pass that writes nothing, then a writing one.
-fn read_in(
-    rows: &[u64],
+// The same, with the rows of the runs over lent numbers.
+fn read_over(
+    sheet: &[u8],
     image: &[u8],
     pagefile: &[u8],
-    directory: Frame,
+    rows: &mut [u64],
     address: u64,
     n: u64,
     out: &mut [u8],
 ) -> BytesRead
-    ensures { λ r. ⌜ record { answer = r; buffer = now (out .exit) } ≡ readAll (now (out .entry)) n (bytesOf n (worldIn (now (rows .entry)) directory (now (image .entry)) (now (pagefile .entry))) address) ⌝ }
+    requires { ⌜ rowNumbers (caseOf (now sheet) (now image) (now pagefile)) ≤ length (now rows) ⌝ }
+    ensures { λ r. ⌜ ReadAnswer (caseOf (now (sheet .entry)) (now (image .entry)) (now (pagefile .entry))) address n (now (out .entry)) r (now (out .exit)) ⌝ }
+{
+    match case::open_case(sheet, image, pagefile, rows) {
+        Opened::Refused(refusal) => refuse(refusal),
+        Opened::Ready(space, k) => {
+            if (out.len() as u64) < n {
+                return refuse(Refusal::ReadBufferShort);
+            }
+            read_in(&rows[..k], image, pagefile, space, address, n, out)
+        }
+    }
+}
+
+// The same of an opened case: a pass that writes nothing, then a writing one.
+fn read_in(
+    rows: &[u64],
+    image: &[u8],
+    pagefile: &[u8],
+    space: AddressSpace,
+    address: u64,
+    n: u64,
+    out: &mut [u8],
+) -> BytesRead
+    ensures { λ r. ⌜ record { answer = r; buffer = now (out .exit) } ≡ readAll (now (out .entry)) n (bytesOf n (rowsWorld (now (rows .entry)) space (now (image .entry)) (now (pagefile .entry))) address) ⌝ }
 {
     let none = 0;
-    match fill(
-        rows,
-        image,
-        pagefile,
-        directory,
-        address,
-        n,
-        &mut out[..none],
-    ) {
-        Filled::Stopped(fault) => refuse(fault),
+    match fill(rows, image, pagefile, space, address, n, &mut out[..none]) {
+        Filled::Refused(refusal) => refuse(refusal),
         Filled::AllRead(zeros) => {
-            fill(rows, image, pagefile, directory, address, n, out);
+            fill(rows, image, pagefile, space, address, n, out);
             done(n, zeros)
         }
     }
 }
 
-fn refuse(fault: Refusal) -> BytesRead
-    ensures { λ r. ⌜ r ≡ refusedBytes fault ⌝ }
+fn refuse(refusal: Refusal) -> BytesRead
+    ensures { λ r. ⌜ r ≡ refusedBytes refusal ⌝ }
 {
     BytesRead {
-        number: fault.number(),
+        number: refusal.number(),
         length: 0,
         zeros: 0,
     }
@@ -117,29 +126,27 @@ fn fill(
     rows: &[u64],
     image: &[u8],
     pagefile: &[u8],
-    directory: Frame,
+    space: AddressSpace,
     address: u64,
     n: u64,
     out: &mut [u8],
 ) -> Filled
-    ensures { λ r. ⌜ Fills (bytesOf n (worldIn (now (rows .entry)) directory (now (image .entry)) (now (pagefile .entry))) address) 0 (now (out .entry)) r (now (out .exit)) ⌝ }
+    ensures { λ r. ⌜ FilledWith (bytesOf n (rowsWorld (now (rows .entry)) space (now (image .entry)) (now (pagefile .entry))) address) 0 (now (out .entry)) r (now (out .exit)) ⌝ }
 {
     let mut i = 0;
     let mut zeros = false;
     while i < n {
-        if 18446744073709551615 - address < i {
-            return Filled::Stopped(Refusal::NotCanonical);
+        if TOP_ADDRESS - address < i {
+            return Filled::Refused(Refusal::NotCanonical);
         }
         let a = address + i;
-        let m = least(4096 - a % 4096, n - i);
-        let found = walk::resolve_in(rows, image, pagefile, directory, a);
-        let place = found.place;
-        match lay(image, pagefile, place, m, out, i) {
-            Filled::Stopped(fault) => {
-                return Filled::Stopped(fault);
+        let m = smaller(4096 - a % 4096, n - i);
+        match fill_page(rows, image, pagefile, space, a, m, out, i) {
+            Filled::Refused(refusal) => {
+                return Filled::Refused(refusal);
             }
             Filled::AllRead(z) => {
-                zeros = either(zeros, z);
+                zeros = any_of(zeros, z);
                 i = i + m;
             }
         }
@@ -147,13 +154,32 @@ fn fill(
     Filled::AllRead(zeros)
 }
 
-fn least(a: u64, b: u64) -> u64
+// Lays m bytes from an address on, within its page, over a buffer from `at` on.
+fn fill_page(
+    rows: &[u64],
+    image: &[u8],
+    pagefile: &[u8],
+    space: AddressSpace,
+    address: u64,
+    m: u64,
+    out: &mut [u8],
+    at: u64,
+) -> Filled
+    requires { ⌜ address % 4096 + m ≤ 4096 ⌝ }
+    ensures { λ r. ⌜ FilledWith (pieceOf (now (image .entry)) (now (pagefile .entry)) m (resolveOf 3 (rowsWorld (now (rows .entry)) space (now (image .entry)) (now (pagefile .entry))) address .place)) at (now (out .entry)) r (now (out .exit)) ⌝ }
+{
+    let found = walk::resolve_in(rows, image, pagefile, space, address);
+    let place = found.place;
+    lay(image, pagefile, place, m, out, at)
+}
+
+fn smaller(a: u64, b: u64) -> u64
     ensures { λ r. ⌜ (r ≤ a) × ((r ≤ b) × (r ≡ min a b)) ⌝ }
 {
     if a < b { a } else { b }
 }
 
-fn either(a: bool, b: bool) -> bool
+fn any_of(a: bool, b: bool) -> bool
     ensures { λ r. ⌜ r ≡ (a || b) ⌝ }
 {
     if a {
@@ -165,7 +191,7 @@ fn either(a: bool, b: bool) -> bool
 // Lays m bytes of a place's page over a buffer from `at` on.
 fn lay(image: &[u8], pagefile: &[u8], place: Place, m: u64, out: &mut [u8], at: u64) -> Filled
     requires { ⌜ PieceInside (now image) (now pagefile) m place ⌝ }
-    ensures { λ r. ⌜ Fills (pieceOf (now (image .entry)) (now (pagefile .entry)) m place) at (now (out .entry)) r (now (out .exit)) ⌝ }
+    ensures { λ r. ⌜ FilledWith (pieceOf (now (image .entry)) (now (pagefile .entry)) m place) at (now (out .entry)) r (now (out .exit)) ⌝ }
 {
     match place {
         Place::Image(o) => {
@@ -180,7 +206,7 @@ fn lay(image: &[u8], pagefile: &[u8], place: Place, m: u64, out: &mut [u8], at: 
             clear(m, out, at);
             Filled::AllRead(true)
         }
-        Place::Refused(fault) => Filled::Stopped(fault),
+        Place::Refused(refusal) => Filled::Refused(refusal),
     }
 }
 

@@ -31,11 +31,13 @@ use Rattle.walk.specs.Walk.{
   inPage,
   frameIn,
   settleOf,
+  settled,
   wordIn,
   entryOffset,
   entryOf,
   upperStep,
   descendOf,
+  descended,
   halt,
   leafStep,
   protoStep,
@@ -63,7 +65,7 @@ module _ (w : World) (q : Sound w) (small : length (w .image) ≤ 2 ^ 48) where
   page-coded a f Absent e = refl
   page-coded a f (Page p) e = let h : p * 4096 + 4096 ≤ length (w .image) = q .whole f p e in omega arith
 
-  settle-coded : (a : ℕ) (r : Rest) → RestCoded r → PlaceCoded (settleOf w a r)
+  settle-coded : (a : ℕ) (r : Rest) → RestCoded r → PlaceCoded (settled w a r)
   unfolding settleOf isCode
   settle-coded a (InFrame f s) t = page-coded a (frameIn f s a) (w .page (frameIn f s a)) refl
   settle-coded a (InPagefile p) t = go (leb (p .0 * 4096 + 4096) (length (w .pagefile)))
@@ -74,7 +76,7 @@ module _ (w : World) (q : Sound w) (small : length (w .image) ≤ 2 ^ 48) where
   settle-coded a ZeroPage t = tt
   settle-coded a (Refuses r) t = t
 
-  entry-coded : (l : Level) (a : ℕ) (next : ℕ → Trail) (x : Found) → ((e : ℕ) → LeafCoded (next e .leaf)) → LeafCoded (entryOf w l a next x .leaf)
+  entry-coded : (l : Level) (a : ℕ) (next : ℕ → Trail) (x : Found) → ((e : ℕ) → LeafCoded (next e .leaf)) → LeafCoded (entryOf (w .image) l a next x .leaf)
   unfolding isCode
   entry-coded l a next Absent h = refl
   entry-coded l a next (Page p) h = h (wordAt (w .image) (entryOffset l p a))
@@ -84,12 +86,12 @@ module _ (w : World) (q : Sound w) (small : length (w .image) ≤ 2 ^ 48) where
   step-coded (Ends r) next t h = t
   step-coded UpperNeedsRegion next t h = tt
 
-  descend-coded : (n : ℕ) (t : Frame) (a : ℕ) → LeafCoded (descendOf n w t a .leaf)
+  descend-coded : (n : ℕ) (t : Found) (a : ℕ) → LeafCoded (descendOf n (w .page) (w .image) t a .leaf)
   unfolding descendOf
-  descend-coded zero t a = entry-coded (levelOf 0) a (λ e. halt (leafOf e)) (w .page t) (λ e. leaf-coded e)
+  descend-coded zero t a = entry-coded (levelOf 0) a (λ e. halt (leafOf e)) t (λ e. leaf-coded e)
   descend-coded (suc n) t a =
-      entry-coded (levelOf (suc n)) a (λ e. upperStep (λ f. descendOf n w f a) (upperOf (levelOf (suc n)) e)) (w .page t)
-      (λ e. step-coded (upperOf (levelOf (suc n)) e) (λ f. descendOf n w f a) (upper-coded (levelOf (suc n)) e) (λ f. descend-coded n f a))
+      entry-coded (levelOf (suc n)) a (λ e. upperStep (λ f. descendOf n (w .page) (w .image) (w .page f) a) (upperOf (levelOf (suc n)) e)) t
+      (λ e. step-coded (upperOf (levelOf (suc n)) e) (λ f. descendOf n (w .page) (w .image) (w .page f) a) (upper-coded (levelOf (suc n)) e) (λ f. descend-coded n (w .page f) a))
 
   abbrev NextCoded : Next → Type 0
   NextCoded noMore = Unit {0}
@@ -117,7 +119,7 @@ module _ (w : World) (q : Sound w) (small : length (w .image) ≤ 2 ^ 48) where
   leaf-step-coded a next NeedsRegion s t = refl
 
   body-coded : (a : ℕ) (next : Next) → NextCoded next → reachable a ≡ true → PlaceCoded (bodyOf w next a .place)
-  body-coded a next s h = rw h (leaf-step-coded a next (descendOf 3 w (w .directory) a .leaf) s (descend-coded 3 (w .directory) a))
+  body-coded a next s h = rw h (leaf-step-coded a next (descended w a .leaf) s (descend-coded 3 (w .page (w .space .directory)) a))
 
   pub resolve-coded : (n a : ℕ) → reachable a ≡ true → PlaceCoded (resolveOf n w a .place)
   unfolding resolveOf

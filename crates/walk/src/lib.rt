@@ -6,12 +6,13 @@ use entry::PageSize;
 use entry::PagefilePage;
 use entry::Rest;
 use entry::Upper;
+use sheet::AddressSpace;
 ghost use mathlib.Core.Path.{_≡_};
 ghost use Prim.Native.Nat.{_-_, _/_, _%_, _^_, _≤_, _<_};
 ghost use lib.ListN.{length};
 ghost use Rattle.entry.specs.Entry.{levelOf};
-ghost use Rattle.walk.specs.Walk.{frameIn, inPage, pagefilePlace, wordOf, resolveOf};
-ghost use Rattle.walk.specs.Rows.{pageInRows, guarded, worldIn, entryRead, Descends, noTable, endedAfter, Settles, WordInside, refusedPlace, prototypeStep, resolvedOf};
+ghost use Rattle.walk.specs.Walk.{frameIn, inPage, pagefilePlace, settleOf, descendOf, wordOf, resolveOf};
+ghost use Rattle.walk.specs.Rows.{pageInRows, rowsPage, rowsWorld, TableInside, entryRead, descentOf, noTable, endedAfter, WordInside, refusedPlace, prototypeStep, resolvedOf};
 
 // The image page of a frame.
 pub enum Found {
@@ -71,7 +72,7 @@ fn less(n: u64, m: u64) -> u64
 
 // The image page of a frame, where the image of so many bytes has it.
 fn locate(rows: &[u64], size: u64, f: Frame) -> Found
-    ensures { λ r. ⌜ r ≡ guarded size (pageInRows (now (rows .entry)) f) ⌝ }
+    ensures { λ r. ⌜ r ≡ rowsPage (now (rows .entry)) size f ⌝ }
 {
     let found = find_page(rows, f);
     match found {
@@ -114,12 +115,11 @@ fn frame_in(f: Frame, size: PageSize, address: u64) -> Frame
 }
 
 // The entry for an address in a table with so many levels below it.
-fn table_entry(rows: &[u64], image: &[u8], table: Frame, below: u64, address: u64) -> EntryRead
-    ensures { λ r. ⌜ r ≡ entryRead (now (image .entry)) (levelOf below) address (guarded (length (now (image .entry))) (pageInRows (now (rows .entry)) table)) ⌝ }
+fn table_entry(image: &[u8], table: Found, below: u64, address: u64) -> EntryRead
+    requires { ⌜ TableInside (now image) table ⌝ }
+    ensures { λ r. ⌜ r ≡ entryRead (now (image .entry)) (levelOf below) address table ⌝ }
 {
-    let size = image.len() as u64;
-    let found = locate(rows, size, table);
-    match found {
+    match table {
         Found::Absent => EntryRead::NoTable,
         Found::Page(p) => {
             let at = p * 4096 + 8 * index(below, address);
@@ -128,15 +128,17 @@ fn table_entry(rows: &[u64], image: &[u8], table: Frame, below: u64, address: u6
     }
 }
 
-// Down the four levels.
-fn descend(rows: &[u64], image: &[u8], directory: Frame, address: u64) -> Descent
-    ensures { λ r. ⌜ Descends (now (rows .entry)) (now (image .entry)) directory address r ⌝ }
+// Down the four levels from the place of the top table.
+fn descend(rows: &[u64], image: &[u8], top: Found, address: u64) -> Descent
+    requires { ⌜ TableInside (now image) top ⌝ }
+    ensures { λ r. ⌜ r ≡ descentOf (descendOf 3 (rowsPage (now (rows .entry)) (length (now (image .entry)))) (now (image .entry)) top address) ⌝ }
 {
-    let mut table = directory;
+    let size = image.len() as u64;
+    let mut table = top;
     let mut below = 3;
     let mut entries = 0;
     while 0 < below {
-        match table_entry(rows, image, table, below, address) {
+        match table_entry(image, table, below, address) {
             EntryRead::NoTable => {
                 return no_table(entries);
             }
@@ -150,17 +152,26 @@ fn descend(rows: &[u64], image: &[u8], directory: Frame, address: u64) -> Descen
                         return ended(Leaf::Settled(rest), entries);
                     }
                     Upper::Table(f) => {
-                        table = f;
+                        table = locate(rows, size, f);
                         below -= 1;
                     }
                 }
             }
         }
     }
-    match table_entry(rows, image, table, 0, address) {
+    match table_entry(image, table, 0, address) {
         EntryRead::NoTable => no_table(entries),
         EntryRead::Entry(e) => ended(entry::last_entry(e), entries + 1),
     }
+}
+
+// The same from the top table of an address space.
+fn descend_from(rows: &[u64], image: &[u8], space: AddressSpace, address: u64) -> Descent
+    ensures { λ r. ⌜ r ≡ descentOf (descendOf 3 (rowsPage (now (rows .entry)) (length (now (image .entry)))) (now (image .entry)) (rowsPage (now (rows .entry)) (length (now (image .entry))) (space .directory)) address) ⌝ }
+{
+    let directory = space.directory;
+    let top = locate(rows, image.len() as u64, directory);
+    descend(rows, image, top, address)
 }
 
 // A table's frame is in no run.
@@ -178,7 +189,7 @@ fn ended(leaf: Leaf, entries: u64) -> Descent
 
 // The place of an address in a frame.
 fn in_frame(rows: &[u64], image: &[u8], f: Frame, address: u64) -> Place
-    ensures { λ r. ⌜ r ≡ inPage address (guarded (length (now (image .entry))) (pageInRows (now (rows .entry)) f)) ⌝ }
+    ensures { λ r. ⌜ r ≡ inPage address (rowsPage (now (rows .entry)) (length (now (image .entry))) f) ⌝ }
 {
     let size = image.len() as u64;
     let found = locate(rows, size, f);
@@ -202,7 +213,7 @@ fn in_pagefile(pagefile: &[u8], page: PagefilePage, address: u64) -> Place
 
 // Where an entry leads by itself, for an address.
 fn settle(rows: &[u64], image: &[u8], pagefile: &[u8], address: u64, rest: Rest) -> Place
-    ensures { λ r. ⌜ Settles (now (rows .entry)) (now (image .entry)) (now (pagefile .entry)) address rest r ⌝ }
+    ensures { λ r. ⌜ r ≡ settleOf (rowsPage (now (rows .entry)) (length (now (image .entry)))) (length (now (pagefile .entry))) address rest ⌝ }
 {
     match rest {
         Rest::InFrame(f, size) => in_frame(rows, image, frame_in(f, size, address), address),
@@ -241,12 +252,12 @@ fn resolve(
     rows: &[u64],
     image: &[u8],
     pagefile: &[u8],
-    directory: Frame,
+    space: AddressSpace,
     address: u64,
     left: u64,
 ) -> Resolved
     requires { ⌜ left ≤ 3 ⌝ }
-    ensures { λ r. ⌜ r ≡ resolvedOf (resolveOf left (worldIn (now (rows .entry)) directory (now (image .entry)) (now (pagefile .entry))) address) ⌝ }
+    ensures { λ r. ⌜ r ≡ resolvedOf (resolveOf left (rowsWorld (now (rows .entry)) space (now (image .entry)) (now (pagefile .entry))) address) ⌝ }
 {
     if !entry::is_canonical(address) {
         return Resolved {
@@ -254,7 +265,7 @@ fn resolve(
             entries: 0,
         };
     }
-    let d = descend(rows, image, directory, address);
+    let d = descend_from(rows, image, space, address);
     let n = d.entries;
     let leaf = d.leaf;
     match leaf {
@@ -267,7 +278,7 @@ fn resolve(
             Resolved { place, entries: n }
         }
         Leaf::Prototype(target) => {
-            let r = prototype(rows, image, pagefile, directory, address, target, left);
+            let r = prototype(rows, image, pagefile, space, address, target, left);
             let place = r.place;
             Resolved {
                 place,
@@ -282,13 +293,13 @@ fn prototype(
     rows: &[u64],
     image: &[u8],
     pagefile: &[u8],
-    directory: Frame,
+    space: AddressSpace,
     address: u64,
     target: u64,
     left: u64,
 ) -> Resolved
     requires { ⌜ left ≤ 3 ⌝ }
-    ensures { λ r. ⌜ r ≡ resolvedOf (prototypeStep left (worldIn (now (rows .entry)) directory (now (image .entry)) (now (pagefile .entry))) address target) ⌝ }
+    ensures { λ r. ⌜ r ≡ resolvedOf (prototypeStep left (rowsWorld (now (rows .entry)) space (now (image .entry)) (now (pagefile .entry))) address target) ⌝ }
 {
     if target % 8 != 0 {
         return Resolved {
@@ -302,7 +313,7 @@ fn prototype(
             entries: 0,
         };
     }
-    let found = resolve(rows, image, pagefile, directory, target, left - 1);
+    let found = resolve(rows, image, pagefile, space, target, left - 1);
     let n = found.entries;
     let at = found.place;
     if is_refused(at) {
@@ -321,10 +332,10 @@ pub fn resolve_in(
     rows: &[u64],
     image: &[u8],
     pagefile: &[u8],
-    directory: Frame,
+    space: AddressSpace,
     address: u64,
 ) -> Resolved
-    ensures { λ r. ⌜ r ≡ resolvedOf (resolveOf 3 (worldIn (now (rows .entry)) directory (now (image .entry)) (now (pagefile .entry))) address) ⌝ }
+    ensures { λ r. ⌜ r ≡ resolvedOf (resolveOf 3 (rowsWorld (now (rows .entry)) space (now (image .entry)) (now (pagefile .entry))) address) ⌝ }
 {
-    resolve(rows, image, pagefile, directory, address, 3)
+    resolve(rows, image, pagefile, space, address, 3)
 }

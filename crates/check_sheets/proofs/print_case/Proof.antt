@@ -1,13 +1,20 @@
-use borrow.Author.Needs.{needs}
+-- At most 32 rows are printed.
 use Prim.Native.Nat.{_≤_, _-_}
+use borrow.Author.Needs.{needs}
 use Rattle.check_sheets.proofs.print_case.Statement.{statement}
 use Rattle.check_sheets.proofs.print_case.Tie as tie
 
 abbrev Inv-loop : tie.InvT-loop
-Inv-loop directory count rows i₀ i = i ≤ 32
+Inv-loop rows count i₀ i = i ≤ 32
 
 abbrev μ-loop : tie.MeasureT-loop
-μ-loop directory count rows i₀ i = 32 - i
+μ-loop rows count i₀ i = 32 - i
+
+print-decimal-requires : tie.Need-print-decimal-requires Inv-loop μ-loop
+print-decimal-requires c κs = search needs
+
+number-requires : tie.Need-number-requires Inv-loop μ-loop
+number-requires c κs = search needs
 
 print-next-requires : tie.Need-print-next-requires Inv-loop μ-loop
 print-next-requires c κs = search needs
@@ -66,6 +73,8 @@ print-case-spec =
     (tie.spec
     Inv-loop
     μ-loop
+    print-decimal-requires
+    number-requires
     print-next-requires
     print-next-requires-2
     loop-holds

@@ -5,7 +5,7 @@ use native.Mathlib.Omega.{arith}
 use Prim.Native.Nat.{_-_}
 use denote.Ref.{now}
 use Rattle.entry.specs.declared.VirtualPage.{VirtualPage}
-use Rattle.walk.specs.Rows.{worldIn}
+use Rattle.walk.specs.Rows.{rowsWorld}
 use Rattle.walk.proofs.Cycle.{sound-rows}
 use Rattle.maps.proofs.Ranges.{allowed-range, range-top}
 use Rattle.maps.proofs.Mapping.{Mapping, mapping-none, mapping-room, mapping-next, mapping-end, map-written, wrote-long}
@@ -13,10 +13,10 @@ use Rattle.maps.proofs.write_map.Statement.{statement}
 use Rattle.maps.proofs.write_map.Tie as tie
 
 abbrev Inv-loop : tie.InvT-loop
-Inv-loop rows image pagefile directory start pages out₀ at builder₀ i₀ out builder i = Mapping (worldIn rows directory image pagefile) start pages out₀ builder₀ i out builder
+Inv-loop rows image pagefile space start pages out₀ at builder₀ i₀ out builder i = Mapping (rowsWorld rows space image pagefile) start pages out₀ builder₀ i out builder
 
 abbrev μ-loop : tie.MeasureT-loop
-μ-loop rows image pagefile directory start pages out₀ at builder₀ i₀ out builder i = pages - i
+μ-loop rows image pagefile space start pages out₀ at builder₀ i₀ out builder i = pages - i
 
 of-address-requires : tie.Need-of-address-requires Inv-loop μ-loop
 of-address-requires c κs = search needs
@@ -31,7 +31,7 @@ loop-holds : tie.Need-loop-holds Inv-loop μ-loop
 loop-holds c =
     let at-page = c .before .before .before .before in
     let start = at-page .before .before .before .before .before in
-    let world = worldIn (now (start .args .rows)) (start .args .directory) (now (start .args .image)) (now (start .args .pagefile)) in
+    let world = rowsWorld (now (start .args .rows)) (start .args .space) (now (start .args .image)) (now (start .args .pagefile)) in
     let header = rw (at-page .of-address .ensures) at (c .before .before .write-header .ensures) in
     mapping-none world _ _ _ _ (allowed-range _ _ (start .pre .0) .most) header
 
@@ -63,7 +63,7 @@ loop-again : tie.Need-loop-again Inv-loop μ-loop
 loop-again c =
     let at-test = c .before .before .before .before .before .before .before in
     let start = at-test .before .before .before .before .before .before .before .before .before .before .before in
-    let sound = sound-rows (now (start .args .rows)) (start .args .directory) (now (start .args .image)) (now (start .args .pagefile)) in
+    let sound = sound-rows (now (start .args .rows)) (start .args .space) (now (start .args .image)) (now (start .args .pagefile)) in
     let found = c .before .before .before .before .before .before .resolve-in .ensures in
     let answer = c .before .before .before .before .before .answer-of .ensures in
     let next = mapping-next (at-test .before .loop .inv) sound (start .pre .1) (start .pre .0) (at-test .loop-test .taken) in

@@ -3,31 +3,31 @@ use denote.Ref.{now}
 use mathlib.Core.Path.{sym, _∙_}
 use native.Mathlib.Omega.{arith}
 use Prim.Native.Nat.{_-_}
-use Rattle.walk.specs.Rows.{worldIn}
+use Rattle.walk.specs.Rows.{rowsWorld}
 use Rattle.process_list.proofs.Following.{Following, following-none, following-long, link-broken, back-at-head, no-room, node-listed, last-link}
 use Rattle.process_list.proofs.follow.Statement.{statement}
 use Rattle.process_list.proofs.follow.Tie as tie
 
 abbrev Inv-loop : tie.InvT-loop
-Inv-loop rows image pagefile directory head room out₀ node₀ count₀ out node count = Following (worldIn rows directory image pagefile) head room out₀ count node out
+Inv-loop rows image pagefile directory head room out₀ node₀ count₀ out node count = Following (rowsWorld rows directory image pagefile) head room out₀ count node out
 
 abbrev μ-loop : tie.MeasureT-loop
 μ-loop rows image pagefile directory head room out₀ node₀ count₀ out node count = 4096 - count
 
 loop-holds : tie.Need-loop-holds Inv-loop μ-loop
-loop-holds c = following-none (worldIn (now (c .before .before .before .before .args .rows)) (c .before .before .before .before .args .directory) (now (c .before .before .before .before .args .image)) (now (c .before .before .before .before .args .pagefile))) _ _ _ (c .before .before .before .before .pre)
+loop-holds c = following-none (rowsWorld (now (c .before .before .before .before .args .rows)) (c .before .before .before .before .args .space) (now (c .before .before .before .before .args .image)) (now (c .before .before .before .before .args .pagefile))) _ _ _ (c .before .before .before .before .pre)
 
 next-node-requires : tie.Need-next-node-requires Inv-loop μ-loop
 next-node-requires c κs = c .before .loop .inv .aligned
 
-enum-known-fault : tie.Need-enum-known-fault Inv-loop μ-loop
-enum-known-fault c = search needs
+enum-known-refusal : tie.Need-enum-known-refusal Inv-loop μ-loop
+enum-known-refusal c = search needs
 
 same-length : tie.Need-same-length Inv-loop μ-loop
 same-length c = following-long (c .before .before .before .before .before .loop .inv)
 
 returns : tie.Need-returns Inv-loop μ-loop
-returns c = link-broken (c .before .before .before .before .before .loop .inv) (c .before .before .before .before .loop-test .taken) _ (sym (c .before .before .before .next-node .ensures) ∙ c .before .fault .given .1)
+returns c = link-broken (c .before .before .before .before .before .loop .inv) (c .before .before .before .before .loop-test .taken) _ (sym (c .before .before .before .next-node .ensures) ∙ c .before .refusal .given .1)
 
 enum-known-next : tie.Need-enum-known-next Inv-loop μ-loop
 enum-known-next c = search needs
@@ -44,8 +44,8 @@ same-length-3 c = following-long (c .before .before .before .before .before .bef
 returns-3 : tie.Need-returns-3 Inv-loop μ-loop
 returns-3 c = no-room (c .before .before .before .before .before .before .before .loop .inv) (c .before .before .before .before .before .before .loop-test .taken) _ (sym (c .before .before .before .before .before .next-node .ensures) ∙ c .before .before .before .next .given .1) (c .before .if1 .left) (c .if2 .taken)
 
-put-requires : tie.Need-put-requires Inv-loop μ-loop
-put-requires c κs = search needs
+put-number-requires : tie.Need-put-number-requires Inv-loop μ-loop
+put-number-requires c κs = search needs
 
 add-count : tie.Need-add-count Inv-loop μ-loop
 add-count c = omega (arith, c .before .before .before .before .before .before .before .before .before .before .loop-test .taken)
@@ -54,7 +54,7 @@ loop-less : tie.Need-loop-less Inv-loop μ-loop
 loop-less c = omega (arith, c .before .before .before .before .before .before .before .before .before .before .loop-test .taken)
 
 loop-again : tie.Need-loop-again Inv-loop μ-loop
-loop-again c = node-listed (c .before .before .before .before .before .before .before .before .before .before .before .loop .inv) (c .before .before .before .before .before .before .before .before .before .before .loop-test .taken) _ (sym (c .before .before .before .before .before .before .before .before .before .next-node .ensures) ∙ c .before .before .before .before .before .before .before .next .given .1) (c .before .before .before .before .before .if1 .left) (c .before .before .before .before .if2 .left) _ (c .before .before .put .ensures)
+loop-again c = node-listed (c .before .before .before .before .before .before .before .before .before .before .before .loop .inv) (c .before .before .before .before .before .before .before .before .before .before .loop-test .taken) _ (sym (c .before .before .before .before .before .before .before .before .before .next-node .ensures) ∙ c .before .before .before .before .before .before .before .next .given .1) (c .before .before .before .before .before .if1 .left) (c .before .before .before .before .if2 .left) _ (c .before .before .put-number .ensures)
 
 next-node-requires-2 : tie.Need-next-node-requires-2 Inv-loop μ-loop
 next-node-requires-2 c κs = c .before .loop .inv .aligned
@@ -76,7 +76,7 @@ follow-spec =
     μ-loop
     loop-holds
     next-node-requires
-    enum-known-fault
+    enum-known-refusal
     same-length
     returns
     enum-known-next
@@ -84,7 +84,7 @@ follow-spec =
     returns-2
     same-length-3
     returns-3
-    put-requires
+    put-number-requires
     add-count
     loop-less
     loop-again

@@ -1,6 +1,6 @@
 use lib.ListN.{length-take}
 use native.Mathlib.Omega.{arith}
-use Rattle.process_list.proofs.Answers.{broken-list, whole-list}
+use Rattle.process_list.proofs.Answers.{refused-list, whole-list}
 use borrow.Author.Needs.{needs}
 use Rattle.process_list.proofs.list_in.Statement.{statement}
 use Rattle.process_list.proofs.list_in.Tie as tie
@@ -14,8 +14,8 @@ slice-aggregate-follow c = simp length-take (omega arith)
 follow-requires : tie.Need-follow-requires
 follow-requires c κs = search needs
 
-enum-known-fault : tie.Need-enum-known-fault
-enum-known-fault c = search needs
+enum-known-refusal : tie.Need-enum-known-refusal
+enum-known-refusal c = search needs
 
 not-written-requires : tie.Need-not-written-requires
 not-written-requires c κs = search needs
@@ -30,7 +30,7 @@ same-length : tie.Need-same-length
 same-length c = search needs
 
 returns : tie.Need-returns
-returns c = broken-list _ _ _ _ (c .before .before .before .before .before .before .follow .ensures) _ (c .before .before .fault .given .1) _ (c .not-written .ensures)
+returns c = refused-list _ _ _ _ (c .before .before .before .before .before .before .follow .ensures) _ (c .before .before .refusal .given .1) _ (c .not-written .ensures)
 
 same-length-2 : tie.Need-same-length-2
 same-length-2 c = search needs
@@ -45,7 +45,7 @@ list-in-spec =
     slice-relend-prefix-follow
     slice-aggregate-follow
     follow-requires
-    enum-known-fault
+    enum-known-refusal
     not-written-requires
     enum-known-count
     follow-requires-2

@@ -7,8 +7,8 @@ use Rattle.process_list.proofs.next_node.Tie as tie
 read-link-requires : tie.Need-read-link-requires
 read-link-requires c κs = search needs
 
-enum-known-fault : tie.Need-enum-known-fault
-enum-known-fault c = search needs
+enum-known-refusal : tie.Need-enum-known-refusal
+enum-known-refusal c = search needs
 
 enum-known-next : tie.Need-enum-known-next
 enum-known-next c = search needs
@@ -19,8 +19,8 @@ returns c = forward-unaligned _ _ _ (sym (c .before .before .before .before .rea
 back-link-requires : tie.Need-back-link-requires
 back-link-requires c κs = search needs
 
-enum-known-fault-2 : tie.Need-enum-known-fault-2
-enum-known-fault-2 c = search needs
+enum-known-refusal-2 : tie.Need-enum-known-refusal-2
+enum-known-refusal-2 c = search needs
 
 enum-known-back : tie.Need-enum-known-back
 enum-known-back c = search needs
@@ -29,10 +29,10 @@ returns-2 : tie.Need-returns-2
 returns-2 c = back-differs _ _ _ (sym (c .before .before .before .before .before .before .before .before .before .read-link .ensures) ∙ c .before .before .before .before .before .before .before .next .given .1) (c .before .before .before .before .before .if1 .left) _ (sym (c .before .before .before .before .back-link .ensures) ∙ c .before .before .back .given .1) (c .if2 .taken)
 
 returns-3 : tie.Need-returns-3
-returns-3 c = forward-broken _ _ _ (sym (c .before .before .before .read-link .ensures) ∙ c .before .fault .given .1)
+returns-3 c = forward-broken _ _ _ (sym (c .before .before .before .read-link .ensures) ∙ c .before .refusal .given .1)
 
 returns-4 : tie.Need-returns-4
-returns-4 c = back-broken _ _ _ (sym (c .before .before .before .before .before .before .before .before .read-link .ensures) ∙ c .before .before .before .before .before .before .next .given .1) (c .before .before .before .before .if1 .left) _ (sym (c .before .before .before .back-link .ensures) ∙ c .before .fault2 .given .1)
+returns-4 c = back-broken _ _ _ (sym (c .before .before .before .before .before .before .before .before .read-link .ensures) ∙ c .before .before .before .before .before .before .next .given .1) (c .before .before .before .before .if1 .left) _ (sym (c .before .before .before .back-link .ensures) ∙ c .before .refusal2 .given .1)
 
 returns-5 : tie.Need-returns-5
 returns-5 c = back-same _ _ _ (sym (c .before .before .before .before .before .before .before .before .before .read-link .ensures) ∙ c .before .before .before .before .before .before .before .next .given .1) (c .before .before .before .before .before .if1 .left) _ (sym (c .before .before .before .before .back-link .ensures) ∙ c .before .before .back .given .1) (c .if2 .left)
@@ -42,11 +42,11 @@ next-node-spec =
     tie.close
     (tie.spec
     read-link-requires
-    enum-known-fault
+    enum-known-refusal
     enum-known-next
     returns
     back-link-requires
-    enum-known-fault-2
+    enum-known-refusal-2
     enum-known-back
     returns-2
     returns-3

@@ -1,7 +1,7 @@
 use Prim.Native.Nat.{_-_}
 use native.Mathlib.Omega.{arith}
 use borrow.Author.Needs.{needs}
-use Rattle.processor_block.specs.Block.{NoneFit}
+use Rattle.processor_block.specs.Inner.{NoneFit}
 use Rattle.processor_block.proofs.Fitting.{none-yet, not-pair, one-more}
 use Rattle.processor_block.proofs.next_pair.Statement.{statement}
 use Rattle.processor_block.proofs.next_pair.Tie as tie

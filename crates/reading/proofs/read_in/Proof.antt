@@ -14,8 +14,8 @@ slice-aggregate-fill c = simp length-take (omega arith)
 fill-requires : tie.Need-fill-requires
 fill-requires c κs = search needs
 
-enum-known-fault : tie.Need-enum-known-fault
-enum-known-fault c = search needs
+enum-known-refusal : tie.Need-enum-known-refusal
+enum-known-refusal c = search needs
 
 refuse-requires : tie.Need-refuse-requires
 refuse-requires c κs = search needs
@@ -33,7 +33,7 @@ same-length : tie.Need-same-length
 same-length c = search needs
 
 returns : tie.Need-returns
-returns c = refused-read _ _ _ _ _ (c .before .before .before .before .before .before .fill .ensures) _ (c .before .before .fault .given .1) _ (c .refuse .ensures)
+returns c = refused-read _ _ _ _ _ (c .before .before .before .before .before .before .fill .ensures) _ (c .before .before .refusal .given .1) _ (c .refuse .ensures)
 
 same-length-2 : tie.Need-same-length-2
 same-length-2 c = search needs
@@ -48,7 +48,7 @@ read-in-spec =
     slice-relend-prefix-fill
     slice-aggregate-fill
     fill-requires
-    enum-known-fault
+    enum-known-refusal
     refuse-requires
     enum-known-zeros
     fill-requires-2

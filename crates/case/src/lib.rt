@@ -1,0 +1,77 @@
+// What every call on a case shares: opening the case, and the answer for an address.
+use base::Refusal;
+use sheet::AddressSpace;
+use sheet::SheetRead;
+use walk::Place;
+use walk::Resolved;
+ghost use mathlib.Core.Path.{_≡_};
+ghost use Rattle.case.specs.Case.{caseOf};
+ghost use Rattle.case.specs.Answer.{placeAnswer, refusal};
+ghost use Rattle.case.specs.Inner.{Opens};
+
+// 01's number, the addressed byte's offset in its file, and the entries read.
+#[repr(C)]
+pub struct Answer {
+    pub number: u64,
+    pub offset: u64,
+    pub entries: u64,
+}
+
+// The address space of an accepted case and how many numbers its rows take, or the refusal.
+pub enum Opened {
+    Ready(AddressSpace, usize),
+    Refused(Refusal),
+}
+
+// Checks the sheet and the two lengths, and lays the rows of the runs over the lent numbers.
+pub fn open_case(sheet: &[u8], image: &[u8], pagefile: &[u8], rows: &mut [u64]) -> Opened
+    ensures { λ r. ⌜ Opens (caseOf (now (sheet .entry)) (now (image .entry)) (now (pagefile .entry))) (now (rows .entry)) r (now (rows .exit)) ⌝ }
+{
+    match sheet::read_sheet(sheet, image.len() as u64, pagefile.len() as u64, rows) {
+        SheetRead::Refused(refusal) => Opened::Refused(refusal),
+        SheetRead::Accepted(header) => {
+            let space = header.space;
+            Opened::Ready(space, 3 * header.count)
+        }
+    }
+}
+
+pub fn refuse(r: Refusal) -> Answer
+    ensures { λ a. ⌜ a ≡ refusal r ⌝ }
+{
+    Answer {
+        number: r.number(),
+        offset: 0,
+        entries: 0,
+    }
+}
+
+// 01's number and offset of where an address leads.
+pub fn answer_of(found: Resolved) -> Answer
+    ensures { λ r. ⌜ r ≡ placeAnswer (found .place) (found .entries) ⌝ }
+{
+    let entries = found.entries;
+    let place = found.place;
+    match place {
+        Place::Image(offset) => Answer {
+            number: 1,
+            offset,
+            entries,
+        },
+        Place::Pagefile(offset) => Answer {
+            number: 2,
+            offset,
+            entries,
+        },
+        Place::Zeros => Answer {
+            number: 3,
+            offset: 0,
+            entries,
+        },
+        Place::Refused(r) => Answer {
+            number: r.number(),
+            offset: 0,
+            entries,
+        },
+    }
+}

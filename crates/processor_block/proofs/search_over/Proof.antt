@@ -1,0 +1,73 @@
+-- The case is opened, and searched in its world.
+use native.Mathlib.Omega.{arith}
+use lib.ListN.{length-take}
+use Rattle.case.proofs.Opening.{refused-case, accepted-case}
+use Rattle.processor_block.proofs.Answers.{refused-search, whole-pages, searched}
+use borrow.Author.Needs.{needs}
+use Rattle.processor_block.proofs.search_over.Statement.{statement}
+use Rattle.processor_block.proofs.search_over.Tie as tie
+
+open-case-requires : tie.Need-open-case-requires
+open-case-requires c κs = search needs
+
+enum-known-refusal : tie.Need-enum-known-refusal
+enum-known-refusal c = search needs
+
+refuse-requires : tie.Need-refuse-requires
+refuse-requires c κs = search needs
+
+enum-known-n : tie.Need-enum-known-n
+enum-known-n c = search needs
+
+slice-reshare-prefix-search : tie.Need-slice-reshare-prefix-search
+slice-reshare-prefix-search c =
+    let at-rows = c .before in
+    let at-open = at-rows .before .before .before .before in
+    let opened = accepted-case _ _ _ _ _ _ (at-open .before .before .before .before .before .before .pre) (at-open .open-case .ensures) (at-rows .n .given .1) in
+    omega (arith, opened .few, at-open .before .before .before .before .before .before .pre)
+
+slice-aggregate-search : tie.Need-slice-aggregate-search
+slice-aggregate-search c =
+    let at-rows = c .before .before in
+    let at-open = at-rows .before .before .before .before in
+    let opened = accepted-case _ _ _ _ _ _ (at-open .before .before .before .before .before .before .pre) (at-open .open-case .ensures) (at-rows .n .given .1) in
+    simp length-take (omega (arith, opened .few, at-open .before .before .before .before .before .before .pre))
+
+search-requires : tie.Need-search-requires
+search-requires c κs =
+    let at-rows = c .before .before in
+    let at-open = at-rows .before .before .before .before in
+    let opened = accepted-case _ _ _ _ _ _ (at-open .before .before .before .before .before .before .pre) (at-open .open-case .ensures) (at-rows .n .given .1) in
+    whole-pages _ _ _ _ opened
+
+same-length : tie.Need-same-length
+same-length c = search needs
+
+returns : tie.Need-returns
+returns c = rw (c .refuse .ensures) (refused-search _ _ _ (refused-case _ _ _ _ _ (c .before .before .before .before .before .before .open-case .ensures) (c .before .before .refusal .given .1)))
+
+same-length-2 : tie.Need-same-length-2
+same-length-2 c = search needs
+
+returns-2 : tie.Need-returns-2
+returns-2 c =
+    let at-rows = c .before .before .before in
+    let at-open = at-rows .before .before .before .before in
+    let opened = accepted-case _ _ _ _ _ _ (at-open .before .before .before .before .before .before .pre) (at-open .open-case .ensures) (at-rows .n .given .1) in
+    searched _ _ _ _ opened _ _ (c .search .ensures)
+
+pub search-over-spec : {M : Type 1} → statement M
+search-over-spec =
+    tie.close
+    (tie.spec
+    open-case-requires
+    enum-known-refusal
+    refuse-requires
+    enum-known-n
+    slice-reshare-prefix-search
+    slice-aggregate-search
+    search-requires
+    same-length
+    returns
+    same-length-2
+    returns-2)

@@ -1,0 +1,71 @@
+-- A sheet of few bytes has few runs: three numbers before the runs and two a run take a byte each at least.
+use mathlib.Core.Path.{_≡_, ap}
+use mathlib.Core.List.{List, [], _∷_}
+use Prim.Native.Nat.{ℕ, zero, suc, _+_, _*_, _%_, _^_, _<_, _≤_}
+use native.Mathlib.Omega.{arith}
+use lib.Dec.{eqb, leb, ltb}
+use lib.ListN.{length}
+use borrow.Author.Tests.{eqb-true}
+use Rattle.base.specs.Notation.{within}
+use Rattle.base.specs.declared.Refusal.the-variants.{OutOfLimits, BadRun, TrailingBytes, ImageLengthDiffers, PagefileNotWholePages}
+use Rattle.varint.specs.Reader.{got}
+use Rattle.varint.specs.Groups.{number}
+use Rattle.varint.proofs.Reader.{came, held, returned}
+use Rattle.varint.proofs.Onward.{field-onward}
+use Rattle.entry.specs.Pages.{frame}
+use Rattle.sheet.specs.Sheet.{spaceAt, header, runFrom, runsFrom, endOf, runPages, Sheet, sheetFields, sheetOf}
+use Rattle.sheet.specs.declared.Header.{Header}
+use Rattle.sheet.specs.declared.Run.{Run}
+use Rattle.sheet.proofs.AcceptedCase.{Runs, runs-chain}
+
+header-onward : (s : List ℕ) (h : Header) (next : ℕ) → header s 0 ≡ got h next → 3 ≤ next
+unfolding header
+header-onward s h next e =
+    let c₁ = came s _ (number s 0) h next e in
+    let t₁ = held s _ (eqb (c₁ .value) 1) OutOfLimits (c₁ .at) h next (c₁ .rest) in
+    let c₂ = came s _ (number s (c₁ .at)) h next (t₁ .1) in
+    let c₃ = came s _ (number s (c₂ .at)) h next (c₂ .rest) in
+    let t₂ = held s _ (within 1 32 (c₃ .value)) OutOfLimits (c₃ .at) h next (c₃ .rest) in
+    let same = returned (record { space = spaceAt (c₂ .value); count = c₃ .value }) h (c₃ .at) next (t₂ .1) .1 in
+    omega (
+      arith,
+      field-onward s 0 (c₁ .value) (c₁ .at) (c₁ .field),
+      field-onward s (c₁ .at) (c₂ .value) (c₂ .at) (c₂ .field),
+      field-onward s (c₂ .at) (c₃ .value) (c₃ .at) (c₃ .field),
+    )
+
+run-onward : (s : List ℕ) (at least end : ℕ) (r : Run) (next : ℕ) → runFrom least end s at ≡ got r next → at + 2 ≤ next
+unfolding runFrom
+run-onward s at least end r next e =
+    let c₁ = came s _ (number s at) r next e in
+    let c₂ = came s _ (number s (c₁ .at)) r next (c₁ .rest) in
+    let t₁ = held s _ (leb least (c₁ .value)) BadRun (c₂ .at) r next (c₂ .rest) in
+    let t₂ = held s _ (ltb 0 (c₂ .value)) BadRun (c₂ .at) r next (t₁ .1) in
+    let t₃ = held s _ (leb (end + c₁ .value + c₂ .value) (2 ^ 36)) BadRun (c₂ .at) r next (t₂ .1) in
+    let same = returned (record { first = frame (end + c₁ .value); pages = c₂ .value }) r (c₂ .at) next (t₃ .1) .1 in
+    omega (arith, field-onward s at (c₁ .value) (c₁ .at) (c₁ .field), field-onward s (c₁ .at) (c₂ .value) (c₂ .at) (c₂ .field))
+
+runs-onward : (n least end : ℕ) (s : List ℕ) (at : ℕ) (rs : List Run) (next : ℕ) → runsFrom n least end s at ≡ got rs next → at + 2 * n ≤ next
+unfolding runsFrom
+runs-onward zero least end s at rs next e = let same = returned [] rs at next e .1 in omega arith
+runs-onward (suc n) least end s at rs next e =
+    let c₁ = came s _ (runFrom least end s at) rs next e in
+    let c₂ = came s _ (runsFrom n 1 (endOf (c₁ .value)) s (c₁ .at)) rs next (c₁ .rest) in
+    let same = returned (c₁ .value ∷ c₂ .value) rs (c₂ .at) next (c₂ .rest) .1 in
+    omega (arith, run-onward s at least end (c₁ .value) (c₁ .at) (c₁ .field), runs-onward n 1 (endOf (c₁ .value)) s (c₁ .at) (c₂ .value) (c₂ .at) (c₂ .field))
+
+pub few-bytes : (s : List ℕ) (image pagefile : ℕ) (t : Sheet) (next : ℕ) → sheetOf s image pagefile ≡ got t next → 3 + 2 * length (t .runs) ≤ length s
+unfolding sheetOf sheetFields
+few-bytes s image pagefile t next e =
+    let c₁ = came s _ (header s 0) t next e in
+    let c₂ = came s _ (runsFrom (c₁ .value .count) 0 0 s (c₁ .at)) t next (c₁ .rest) in
+    let t₁ = held s _ (eqb (c₂ .at) (length s)) TrailingBytes (c₂ .at) t next (c₂ .rest) in
+    let t₂ = held s _ (eqb image (4096 * runPages (c₂ .value))) ImageLengthDiffers (c₂ .at) t next (t₁ .1) in
+    let t₃ = held s _ (eqb (pagefile % 4096) 0) PagefileNotWholePages (c₂ .at) t next (t₂ .1) in
+    let same = returned (record { space = c₁ .value .space; runs = c₂ .value }) t (c₂ .at) next (t₃ .1) .0 in
+    let all : c₂ .at ≡ length s = eqb-true (c₂ .at) (length s) (t₁ .0) in
+    let many : length (c₂ .value) ≡ c₁ .value .count = runs-chain (c₁ .value .count) 0 0 s (c₁ .at) (c₂ .value) (c₂ .at) (c₂ .field) .many in
+    let own : 3 + 2 * length (c₂ .value) ≤ length s =
+    omega (arith, header-onward s (c₁ .value) (c₁ .at) (c₁ .field), runs-onward (c₁ .value .count) 0 0 s (c₁ .at) (c₂ .value) (c₂ .at) (c₂ .field)) in
+    let er : c₂ .value ≡ t .runs = ap (λ (z : Sheet). z .runs) same in
+    rw er at own

@@ -1,0 +1,52 @@
+-- What reading parts of a sheet finds, as the code hands it back.
+use mathlib.Core.Path.{_≡_}
+use mathlib.Core.List.{List}
+use Prim.Native.Nat.{ℕ, _+_, _-_, _*_, _%_}
+use mathlib.Core.Bool.{not}
+use lib.Dec.{eqb}
+use lib.ListN.{set}
+use lib.Seq.{sets}
+use Rattle.base.specs.Notation.{if_then_else_, within}
+use Rattle.base.specs.declared.Refusal.the-variants.{OutOfLimits, ImageLengthDiffers, PagefileNotWholePages}
+use Rattle.varint.specs.Reader.{Read, got, bad}
+use Rattle.sheet.specs.Sheet.{spaceAt, endOf, runPages}
+use Rattle.sheet.specs.Call.{rowsFrom}
+use Rattle.sheet.specs.declared.Header.{Header}
+use Rattle.sheet.specs.declared.HeaderRead.{HeaderRead}
+use Rattle.sheet.specs.declared.HeaderRead.the-variants as header-read
+use Rattle.sheet.specs.declared.Run.{Run}
+use Rattle.sheet.specs.declared.RunRead.{RunRead}
+use Rattle.sheet.specs.declared.RunRead.the-variants as run-read
+use Rattle.sheet.specs.declared.RunsRead.{RunsRead}
+use Rattle.sheet.specs.declared.RunsRead.the-variants as runs-read
+use Rattle.sheet.specs.declared.SheetRead.{SheetRead}
+use Rattle.sheet.specs.declared.SheetRead.the-variants as sheet-read
+
+abbrev pub headerRead : Read Header → HeaderRead
+headerRead (got h next) = header-read.Fields h next
+headerRead (bad r) = header-read.Refused r
+
+-- the fields before the runs, with a number for the count
+abbrev pub fieldsRead : ℕ → ℕ → ℕ → HeaderRead
+fieldsRead directory count next =
+    if within 1 32 count then header-read.Fields (record { space = spaceAt directory; count = count }) next else header-read.Refused OutOfLimits
+
+abbrev pub runRead : Read Run → RunRead
+runRead (got r next) = run-read.Taken r next
+runRead (bad r) = run-read.Refused r
+
+-- the numbers with a run's row at place i; `pages` is how many pages stand before it in the image
+abbrev pub withRow : List ℕ → ℕ → ℕ → Run → List ℕ
+withRow rows i pages r = set (set (set rows (3 * i) (r .first .0)) (3 * i + 1) (endOf r)) (3 * i + 2) (r .first .0 - pages)
+
+-- runs that were read: their pages, and their rows over the lent numbers
+abbrev pub RunsLaid : Read (List Run) → List ℕ → RunsRead → List ℕ → Type 0
+RunsLaid (got rs next) old r new = (r ≡ runs-read.Laid (runPages rs) next) × (new ≡ sets old 0 (rowsFrom 0 rs))
+RunsLaid (bad q) old r new = r ≡ runs-read.Refused q
+
+-- the answer for fields that were read, the pages of the runs, and the two lengths
+abbrev pub lengthsRead : Header → ℕ → ℕ → ℕ → SheetRead
+lengthsRead h pages image pagefile =
+    if not (eqb image (4096 * pages)) then sheet-read.Refused ImageLengthDiffers else
+    if not (eqb (pagefile % 4096) 0) then sheet-read.Refused PagefileNotWholePages else
+    sheet-read.Accepted h
