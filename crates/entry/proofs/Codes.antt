@@ -18,7 +18,8 @@ use Rattle.entry.specs.declared.Level.{Level}
 use Rattle.entry.specs.declared.Rest.{Rest}
 use Rattle.entry.specs.declared.Rest.the-variants.{InFrame, InPagefile, ZeroPage, Refuses}
 use Rattle.entry.specs.declared.Upper.{Upper}
-use Rattle.entry.specs.declared.Upper.the-variants.{Table, Ends, UpperNeedsRegion}
+use Rattle.entry.specs.declared.Upper.the-variants.{Table, LargePage, UpperNeedsRegion}
+use Rattle.entry.specs.declared.Upper.the-variants as upper
 use Rattle.entry.specs.declared.Leaf.{Leaf}
 use Rattle.entry.specs.declared.Leaf.the-variants.{Settled, Prototype, NeedsRegion}
 
@@ -61,7 +62,8 @@ prototype-coded e = go (valid e) (prototype e) (transition e)
 
 abbrev pub UpperCoded : Upper → Type 0
 UpperCoded (Table f) = Unit {0}
-UpperCoded (Ends r) = RestCoded r
+UpperCoded (LargePage f s) = Unit {0}
+UpperCoded (upper.Refused r) = isCode (refusalNumber r) ≡ true
 UpperCoded UpperNeedsRegion = Unit {0}
 
 pub upper-coded : (l : Level) (e : ℕ) → UpperCoded (upperOf l e)
@@ -70,8 +72,8 @@ upper-coded l e = go (not (valid e)) (l .region) (wide e) (bit e 7) (l .large)
   where
     go : (a b c d : Bool) (s : PageSize)
         → UpperCoded (
-        if a then (if b then UpperNeedsRegion else Ends (Refuses UpperEntryNotValid)) else
-        if c then Ends (Refuses FrameTooWide) else
+        if a then (if b then UpperNeedsRegion else upper.Refused UpperEntryNotValid) else
+        if c then upper.Refused FrameTooWide else
         if d then largeOf s (frameOf e) else
         Table (frameOf e))
     go true true c d s = tt

@@ -16,7 +16,8 @@ use Rattle.entry.specs.declared.Level.{Level}
 use Rattle.entry.specs.declared.Rest.{Rest}
 use Rattle.entry.specs.declared.Rest.the-variants.{InFrame, InPagefile, ZeroPage, Refuses}
 use Rattle.entry.specs.declared.Upper.{Upper}
-use Rattle.entry.specs.declared.Upper.the-variants.{Table, Ends, UpperNeedsRegion}
+use Rattle.entry.specs.declared.Upper.the-variants.{Table, LargePage, UpperNeedsRegion}
+use Rattle.entry.specs.declared.Upper.the-variants as upper
 use Rattle.entry.specs.declared.Leaf.{Leaf}
 use Rattle.entry.specs.declared.Leaf.the-variants.{Settled, Prototype, NeedsRegion}
 use Rattle.entry.proofs.Codes.{RestCoded, UpperCoded, LeafCoded, prototype-coded, upper-coded, leaf-coded}
@@ -83,7 +84,8 @@ module _ (w : World) (q : Sound w) (small : length (w .image) ≤ 2 ^ 48) where
 
   step-coded : (u : Upper) (next : Frame → Trail) → UpperCoded u → ((f : Frame) → LeafCoded (next f .leaf)) → LeafCoded (upperStep next u .leaf)
   step-coded (Table f) next t h = h f
-  step-coded (Ends r) next t h = t
+  step-coded (LargePage f s) next t h = tt
+  step-coded (upper.Refused r) next t h = t
   step-coded UpperNeedsRegion next t h = tt
 
   descend-coded : (n : ℕ) (t : Found) (a : ℕ) → LeafCoded (descendOf n (w .page) (w .image) t a .leaf)

@@ -148,8 +148,11 @@ fn descend(rows: &[u64], image: &[u8], top: Found, address: u64) -> Descent
                     Upper::UpperNeedsRegion => {
                         return ended(Leaf::NeedsRegion, entries);
                     }
-                    Upper::Ends(rest) => {
-                        return ended(Leaf::Settled(rest), entries);
+                    Upper::LargePage(f, page) => {
+                        return ended(Leaf::Settled(Rest::InFrame(f, page)), entries);
+                    }
+                    Upper::Refused(refusal) => {
+                        return ended(Leaf::Settled(Rest::Refuses(refusal)), entries);
                     }
                     Upper::Table(f) => {
                         table = locate(rows, size, f);
