@@ -8,23 +8,25 @@ pub const LEAST_TIMES: u64 = 100;
 /// The times of each number that can come up somewhere.
 pub struct Tally {
     pub what: &'static str,
-    numbers: &'static [u64],
+    numbers: Vec<u64>,
     times: Vec<u64>,
+    unlisted: u64,
 }
 
 impl Tally {
-    pub fn new(what: &'static str, numbers: &'static [u64]) -> Self {
+    pub fn new(what: &'static str, numbers: Vec<u64>) -> Self {
         Tally {
             what,
-            numbers,
             times: vec![0; numbers.len()],
+            numbers,
+            unlisted: 0,
         }
     }
 
-    /// Only a slip gives a number that is not listed.
     pub fn count(&mut self, number: u64) {
-        if let Some(place) = self.numbers.iter().position(|other| *other == number) {
-            self.times[place] += 1;
+        match self.numbers.iter().position(|other| *other == number) {
+            Some(place) => self.times[place] += 1,
+            None => self.unlisted += 1,
         }
     }
 
@@ -34,18 +36,20 @@ impl Tally {
         place.map_or(String::new(), |place| with_commas(self.times[place]))
     }
 
-    /// A reason to fail for each of these numbers that came up too rarely.
+    /// A reason to fail for each of these numbers that came up too rarely, and for numbers that cannot come up.
     pub fn reasons(&self, wanted: &[u64]) -> Vec<String> {
+        let unlisted = (self.unlisted > 0)
+            .then(|| format!("{}: {} numbers are not listed", self.what, self.unlisted));
         let times = self.numbers.iter().zip(&self.times);
-        times
+        let rare = times
             .filter(|(number, times)| wanted.contains(number) && **times < LEAST_TIMES)
             .map(|(number, times)| {
                 format!(
                     "{}: {} came up {} times, wanted {}",
                     self.what, number, times, LEAST_TIMES
                 )
-            })
-            .collect()
+            });
+        unlisted.into_iter().chain(rare).collect()
     }
 }
 

@@ -4,6 +4,7 @@
 mod common {
     pub mod arguments;
     pub mod case_files;
+    pub mod codes;
     pub mod groups;
     pub mod memory;
     pub mod print;
@@ -25,6 +26,7 @@ mod long_list;
 #[allow(dead_code)]
 #[path = "../second"]
 mod second {
+    pub mod codes;
     pub mod lists;
     pub mod number;
     pub mod sheet;
@@ -34,6 +36,7 @@ mod second {
 
 use common::arguments;
 use common::case_files::CaseFiles;
+use common::codes::{CASE_REFUSALS, NOT_CANONICAL, PAGE_REFUSALS};
 use common::print::{hex, with_commas};
 use common::tally::{print_table, Tally};
 use list_cases::{each_question, p11_files, Question, P11_HEAD};
@@ -43,12 +46,15 @@ use second::walk::Files;
 use std::process::ExitCode;
 
 /// Every number that a search can hand back.
-const BLOCK_NUMBERS: &[u64] = &[1, 10, 11, 12, 13, 14, 15, 16, 55];
+fn block_numbers() -> Vec<u64> {
+    [&[1], CASE_REFUSALS, &[55]].concat()
+}
 
 /// Every number that a list call can hand back.
-const LIST_NUMBERS: &[u64] = &[
-    0, 10, 11, 12, 13, 14, 15, 16, 20, 21, 22, 23, 24, 25, 26, 27, 28, 29, 50, 51, 52, 53,
-];
+fn list_numbers() -> Vec<u64> {
+    let of_links = [&[NOT_CANONICAL], PAGE_REFUSALS, &[50, 51]].concat();
+    [&[0], CASE_REFUSALS, &of_links, &[52, 53]].concat()
+}
 
 /// Lengths of lists; 3 stands for all between 2 and the longest.
 const LENGTHS: &[u64] = &[0, 1, 2, 3, 4096];
@@ -87,9 +93,9 @@ impl Comparison {
         Comparison {
             slip,
             cases: 0,
-            blocks: Tally::new("block search", BLOCK_NUMBERS),
-            lists: Tally::new("list", LIST_NUMBERS),
-            lengths: Tally::new("lists written", LENGTHS),
+            blocks: Tally::new("block search", block_numbers()),
+            lists: Tally::new("list", list_numbers()),
+            lengths: Tally::new("lists written", LENGTHS.to_vec()),
             differing: 0,
             shown: Vec::new(),
             buffers: [Vec::new(), Vec::new()],
@@ -204,8 +210,8 @@ fn report(comparison: &Comparison) -> bool {
     if comparison.differing > 0 {
         reasons.push(format!("differs: {}", comparison.differing));
     }
-    reasons.extend(comparison.blocks.reasons(BLOCK_NUMBERS));
-    reasons.extend(comparison.lists.reasons(LIST_NUMBERS));
+    reasons.extend(comparison.blocks.reasons(&block_numbers()));
+    reasons.extend(comparison.lists.reasons(&list_numbers()));
     reasons.extend(comparison.lengths.reasons(LENGTHS));
     judge_p11(&mut reasons);
     reasons.iter().for_each(|reason| println!("{}", reason));

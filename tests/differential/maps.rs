@@ -4,6 +4,7 @@
 mod common {
     pub mod arguments;
     pub mod case_files;
+    pub mod codes;
     pub mod groups;
     pub mod memory;
     pub mod print;
@@ -19,6 +20,7 @@ mod ranges;
 #[allow(dead_code)]
 #[path = "../second"]
 mod second {
+    pub mod codes;
     pub mod map;
     pub mod number;
     pub mod sheet;
@@ -28,6 +30,7 @@ mod second {
 
 use common::arguments;
 use common::case_files::CaseFiles;
+use common::codes::{CASE_REFUSALS, EXTENT_CODES, NOT_CANONICAL};
 use common::print::{hex, with_commas};
 use common::tally::{print_table, Tally};
 use map_cases::{each_question, p2_files, Question, P2};
@@ -39,18 +42,20 @@ use std::collections::HashSet;
 use std::process::ExitCode;
 
 /// Every number that a map call can hand back.
-const MAP_NUMBERS: &[u64] = &[0, 10, 11, 12, 13, 14, 15, 16, 40, 44];
-
-/// Every code that an extent can have.
-const CODES: &[u64] = &[1, 2, 3, 21, 22, 23, 24, 25, 26, 27, 28, 29];
+fn map_numbers() -> Vec<u64> {
+    [&[0], CASE_REFUSALS, &[40, 44]].concat()
+}
 
 /// Every number that a lookup can hand back.
-const LOOKUP_NUMBERS: &[u64] = &[
-    1, 2, 3, 10, 11, 12, 14, 20, 21, 22, 23, 24, 25, 26, 27, 28, 29, 41, 43,
-];
+fn lookup_numbers() -> Vec<u64> {
+    [EXTENT_CODES, OF_MAP, OF_ADDRESS].concat()
+}
+
+/// The refusals of a map with a fault.
+const OF_MAP: &[u64] = &[10, 11, 12, 14, 43];
 
 /// The refusals of a lookup in a map without fault.
-const OF_ADDRESS: &[u64] = &[20, 41];
+const OF_ADDRESS: &[u64] = &[NOT_CANONICAL, 41];
 
 /// How many differing cases are printed.
 const MOST_SHOWN: usize = 5;
@@ -91,11 +96,11 @@ impl Comparison {
         Comparison {
             slip,
             cases: 0,
-            maps: Tally::new("map call", MAP_NUMBERS),
-            codes: Tally::new("maps with code", CODES),
-            lookups: Tally::new("lookup", LOOKUP_NUMBERS),
-            other_lookups: Tally::new("other maps", LOOKUP_NUMBERS),
-            short_lookups: Tally::new("short maps", LOOKUP_NUMBERS),
+            maps: Tally::new("map call", map_numbers()),
+            codes: Tally::new("maps with code", EXTENT_CODES.to_vec()),
+            lookups: Tally::new("lookup", lookup_numbers()),
+            other_lookups: Tally::new("other maps", lookup_numbers()),
+            short_lookups: Tally::new("short maps", lookup_numbers()),
             differing: 0,
             shown: Vec::new(),
             buffers: [Vec::new(), Vec::new()],
@@ -289,11 +294,11 @@ fn report(comparison: &Comparison) -> bool {
     if comparison.differing > 0 {
         reasons.push(format!("differs: {}", comparison.differing));
     }
-    reasons.extend(comparison.maps.reasons(MAP_NUMBERS));
-    reasons.extend(comparison.codes.reasons(CODES));
-    reasons.extend(comparison.lookups.reasons(CODES));
+    reasons.extend(comparison.maps.reasons(&map_numbers()));
+    reasons.extend(comparison.codes.reasons(EXTENT_CODES));
+    reasons.extend(comparison.lookups.reasons(EXTENT_CODES));
     reasons.extend(comparison.lookups.reasons(OF_ADDRESS));
-    reasons.extend(comparison.other_lookups.reasons(LOOKUP_NUMBERS));
+    reasons.extend(comparison.other_lookups.reasons(&lookup_numbers()));
     judge_p2(&mut reasons);
     reasons.iter().for_each(|reason| println!("{}", reason));
     if reasons.is_empty() {

@@ -1,8 +1,10 @@
 //! Maps that no map call wrote: made up, at the edge of a rule, or broken.
 
+use crate::common::codes::EXTENT_CODES;
 use crate::common::groups::{in_groups, sheet_of, shortest};
 use crate::common::memory::canonical;
 use crate::common::random::Xorshift;
+use crate::second::codes::has_page;
 use crate::second::map::{Extent, Map, HALF_PAGES, MOST_PAGES};
 use crate::second::number::NUMBER_LIMIT;
 
@@ -12,11 +14,8 @@ pub struct OtherMap {
     pub address: u64,
 }
 
-/// All codes that an extent can have.
-const CODES: [u64; 12] = [1, 2, 3, 21, 22, 23, 24, 25, 26, 27, 28, 29];
-
-/// Codes beside those, and numbers that are no code for their size.
-const NO_CODES: [u64; 12] = [
+/// Numbers beside the codes of extents, and numbers that are no code for their size.
+const BESIDE_CODES: [u64; 12] = [
     0,
     4,
     5,
@@ -181,8 +180,8 @@ impl Sketch {
                 let past = random.below(3);
                 self.start_page = start_page_for(self.pages.saturating_sub(past), random);
             }
-            4 | 5 => self.extents[which].code = pick(&NO_CODES, random),
-            6 => self.extents[which].code = pick(&CODES, random),
+            4 | 5 => self.extents[which].code = no_code(random),
+            6 => self.extents[which].code = pick(EXTENT_CODES, random),
             7 => self.extents[which].length = 0,
             8 => self.extents[which].length = other_count(self.extents[which].length, random),
             9 | 10 => self.page_at_top(which, random),
@@ -234,12 +233,17 @@ impl Sketch {
     }
 }
 
-fn has_page(code: u64) -> bool {
-    code == 1 || code == 2
-}
-
 fn pick(numbers: &[u64], random: &mut Xorshift) -> u64 {
     numbers[random.below(numbers.len() as u64) as usize]
+}
+
+fn no_code(random: &mut Xorshift) -> u64 {
+    loop {
+        let number = pick(&BESIDE_CODES, random);
+        if !EXTENT_CODES.contains(&number) {
+            return number;
+        }
+    }
 }
 
 /// Another length or page count, at the edge of a limit.
@@ -278,7 +282,7 @@ fn next_extent(before: Option<&Extent>, length: u64, random: &mut Xorshift) -> E
     loop {
         let code = match random.below(2) {
             0 => 1 + random.below(2),
-            _ => pick(&CODES, random),
+            _ => pick(EXTENT_CODES, random),
         };
         let extent = match has_page(code) {
             true => Extent {

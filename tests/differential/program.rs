@@ -1,9 +1,14 @@
 //! Runs the small program on cases with stated answers, and on files and input that it must cope with.
 
+#[path = "../common"]
+mod common {
+    pub mod codes;
+}
 mod ignored_bits;
 mod program_cases;
 mod tables;
 
+use common::codes::address_numbers;
 use program_cases::Stated;
 use std::fs;
 use std::io::{self, Write};
@@ -24,11 +29,6 @@ const MOST_SHOWN: usize = 400;
 
 /// P4 of the paper.
 const P4: u64 = 0x0000_8000_0000_0000;
-
-/// Every number that an address can have.
-const NUMBERS: [u64; 20] = [
-    1, 2, 3, 10, 11, 12, 13, 14, 15, 16, 20, 21, 22, 23, 24, 25, 26, 27, 28, 29,
-];
 
 fn main() -> ExitCode {
     let (program, broken) = match read_arguments(std::env::args().skip(1)) {
@@ -230,7 +230,7 @@ impl Runs {
 
     fn report(self) -> io::Result<bool> {
         fs::remove_dir_all(&self.folder)?;
-        let unseen: Vec<u64> = NUMBERS
+        let unseen: Vec<u64> = address_numbers()
             .into_iter()
             .filter(|number| !self.seen.contains(number))
             .collect();

@@ -2,9 +2,11 @@
 
 #[path = "../common"]
 mod common {
+    pub mod codes;
     pub mod groups;
     pub mod print;
     pub mod random;
+    pub mod tally;
 }
 // Each test uses its own part of the second reader.
 #[allow(dead_code)]
@@ -16,7 +18,9 @@ mod second {
 }
 mod sheet_cases;
 
+use common::codes::CASE_REFUSALS;
 use common::print::{hex, with_commas};
+use common::tally::{print_table, Tally};
 use second::number::Refusal;
 use second::sheet::{check_sheet, Case};
 use second::slip::{self, Slip, SHEET_SLIPS};
@@ -28,10 +32,9 @@ use std::thread;
 const USAGE: &str = "usage: sheets PROGRAM [--slip NAME] [--longer] [--list-slips]";
 
 /// Every answer that a sheet can have.
-const ANSWERS: [Refusal; 8] = [0, 10, 11, 12, 13, 14, 15, 16];
-
-/// How often each answer has to come up.
-const LEAST_TIMES: u64 = 100;
+fn answers() -> Vec<u64> {
+    [&[0], CASE_REFUSALS].concat()
+}
 
 /// How many differing cases are printed.
 const MOST_SHOWN: usize = 5;
@@ -111,7 +114,7 @@ fn read_arguments(mut words: impl Iterator<Item = String>) -> Result<Arguments, 
 /// What came of comparing all lines.
 struct Comparison {
     cases: u64,
-    times: [u64; ANSWERS.len()],
+    answers: Tally,
     differing: u64,
     shown: Vec<String>,
     missing: u64,
@@ -155,7 +158,7 @@ fn write_record(input: &mut impl Write, record: &Record) -> io::Result<()> {
 fn compare_lines(mut output: impl BufRead, slip: Slip, longer: bool) -> io::Result<Comparison> {
     let mut comparison = Comparison {
         cases: 0,
-        times: [0; ANSWERS.len()],
+        answers: Tally::new("answer", answers()),
         differing: 0,
         shown: Vec::new(),
         missing: 0,
@@ -187,8 +190,7 @@ fn compare_line(comparison: &mut Comparison, record: &Record, line: &[u8], slip:
         slip,
     );
     let number = answer.as_ref().err().copied().unwrap_or(0);
-    let place = ANSWERS.iter().position(|other| *other == number);
-    comparison.times[place.expect("the second reader gives a listed answer")] += 1;
+    comparison.answers.count(u64::from(number));
     comparison.cases += 1;
     if line.is_empty() {
         comparison.missing += 1;
@@ -230,10 +232,7 @@ fn differing_case(record: &Record, line: &[u8], wanted: &str) -> String {
 
 /// Prints the table and every reason to fail; true if there is none.
 fn report(comparison: &Comparison, status: ExitStatus) -> bool {
-    println!("{:>6} {:>12}", "answer", "times");
-    for (answer, times) in ANSWERS.iter().zip(comparison.times) {
-        println!("{:>6} {:>12}", answer, with_commas(times));
-    }
+    print_table(&[&comparison.answers]);
     comparison
         .shown
         .iter()
@@ -264,14 +263,7 @@ fn reasons_to_fail(comparison: &Comparison, status: ExitStatus) -> Vec<String> {
     if !status.success() {
         reasons.push(format!("the program ended with {}", status));
     }
-    for (answer, times) in ANSWERS.iter().zip(comparison.times) {
-        if times < LEAST_TIMES {
-            reasons.push(format!(
-                "answer {} came up {} times, wanted {}",
-                answer, times, LEAST_TIMES
-            ));
-        }
-    }
+    reasons.extend(comparison.answers.reasons(&answers()));
     for (sheet, image_length, line) in STATED {
         let ours = line_of(&check_sheet(sheet, image_length, 0, Slip::None));
         if ours != line {

@@ -4,10 +4,12 @@
 mod common {
     pub mod arguments;
     pub mod case_files;
+    pub mod codes;
     pub mod groups;
     pub mod memory;
     pub mod print;
     pub mod random;
+    pub mod tally;
 }
 mod exports;
 // Each test uses its own part of the second reader.
@@ -15,6 +17,7 @@ mod exports;
 #[path = "../second"]
 mod second {
     pub mod bytes;
+    pub mod codes;
     pub mod number;
     pub mod sheet;
     pub mod slip;
@@ -24,30 +27,25 @@ mod walk_cases;
 
 use common::arguments;
 use common::case_files::CaseFiles;
+use common::codes::{address_numbers, CASE_REFUSALS, NOT_CANONICAL, PAGE_REFUSALS, PLACES};
 use common::print::{hex, with_commas};
+use common::tally::{print_table, Tally, LEAST_TIMES};
 use second::bytes;
 use second::slip::{Slip, WALK_SLIPS};
 use second::walk::{self, word_at, Files, Place};
 use std::process::ExitCode;
 use walk_cases::{each_question, Question, Stated, MOST_ROOM, STATED};
 
-/// Every number that the three calls can hand back.
-const NUMBERS: [u64; 22] = [
-    0, 1, 2, 3, 10, 11, 12, 13, 14, 15, 16, 20, 21, 22, 23, 24, 25, 26, 27, 28, 29, 45,
-];
-
-/// Numbers that a read alone, or an address alone, hands back.
-const READ_ONLY: [u64; 2] = [0, 45];
-const ADDRESS_ONLY: [u64; 3] = [1, 2, 3];
+/// Every number that a read can hand back.
+fn read_numbers() -> Vec<u64> {
+    [&[0], CASE_REFUSALS, &[NOT_CANONICAL], PAGE_REFUSALS, &[45]].concat()
+}
 
 /// How many prototype entries a chain can have.
 const MOST_PROTOTYPES: usize = 3;
 
 /// The most entries that an address can take.
 const MOST_ENTRIES: u64 = 19;
-
-/// How often each number and each chain has to come up.
-const LEAST_TIMES: u64 = 100;
 
 /// How many differing cases are printed.
 const MOST_SHOWN: usize = 5;
@@ -72,8 +70,8 @@ type Pair = [[u64; 3]; 2];
 struct Comparison {
     slip: Slip,
     cases: u64,
-    resolved: [u64; NUMBERS.len()],
-    read: [u64; NUMBERS.len()],
+    resolved: Tally,
+    read: Tally,
     /// By the prototype entries followed: all answers of accepted cases, and those found.
     chains: [[u64; 2]; MOST_PROTOTYPES + 1],
     most_entries: u64,
@@ -88,8 +86,8 @@ impl Comparison {
         Comparison {
             slip,
             cases: 0,
-            resolved: [0; NUMBERS.len()],
-            read: [0; NUMBERS.len()],
+            resolved: Tally::new("resolve", address_numbers()),
+            read: Tally::new("read", read_numbers()),
             chains: [[0; 2]; MOST_PROTOTYPES + 1],
             most_entries: 0,
             differing: 0,
@@ -129,12 +127,12 @@ impl Comparison {
     fn resolve(&mut self, files: Files, address: u64) -> Pair {
         let theirs = exports::resolve(files.sheet, files.image, files.pagefile, address);
         let ours = walk::resolve(files, address, self.slip);
-        count(&mut self.resolved, ours.number);
+        self.resolved.count(ours.number);
         self.most_entries = self.most_entries.max(ours.entries);
         let chain = ours.prototypes as usize;
-        if !(10..20).contains(&ours.number) && chain <= MOST_PROTOTYPES {
+        if !CASE_REFUSALS.contains(&ours.number) && chain <= MOST_PROTOTYPES {
             self.chains[chain][0] += 1;
-            self.chains[chain][1] += u64::from(ours.number < 10);
+            self.chains[chain][1] += u64::from(PLACES.contains(&ours.number));
         }
         [
             [theirs.number, theirs.offset, theirs.entries],
@@ -159,7 +157,7 @@ impl Comparison {
             &mut their_buffer[..room],
         );
         let ours = bytes::read(files, start, n, &mut our_buffer[..room], self.slip);
-        count(&mut self.read, ours.number);
+        self.read.count(ours.number);
         [
             [theirs.number, theirs.length, theirs.zeros],
             [ours.number, ours.length, ours.zeros],
@@ -179,11 +177,6 @@ fn pages(files: Files, address: u64, slip: Slip) -> Pair {
 /// Never 0, so that a byte left alone differs from a byte of a page of zeros.
 fn pattern_byte(place: usize) -> u8 {
     (place % 251) as u8 + 1
-}
-
-fn count(times: &mut [u64; NUMBERS.len()], number: u64) {
-    let place = NUMBERS.iter().position(|other| *other == number);
-    times[place.expect("the second walk gives a listed number")] += 1;
 }
 
 fn case_text(case: u64, files: &CaseFiles, question: &Question) -> String {
@@ -232,12 +225,7 @@ fn entries_text(files: Files, address: u64, slip: Slip) -> String {
 
 /// Prints the tables and every reason to fail; true if there is none.
 fn report(comparison: &Comparison) -> bool {
-    println!("{:>6} {:>12} {:>12}", "number", "resolve", "read");
-    for (place, number) in NUMBERS.iter().enumerate() {
-        let resolved = with_commas(comparison.resolved[place]);
-        let read = with_commas(comparison.read[place]);
-        println!("{:>6} {:>12} {:>12}", number, resolved, read);
-    }
+    print_table(&[&comparison.resolved, &comparison.read]);
     println!("{:>6} {:>12} {:>12}", "depth", "answers", "found");
     for (chain, [answers, found]) in comparison.chains.iter().enumerate() {
         let (answers, found) = (with_commas(*answers), with_commas(*found));
@@ -261,18 +249,14 @@ fn reasons_to_fail(comparison: &Comparison) -> Vec<String> {
     if comparison.differing > 0 {
         reasons.push(format!("differs: {}", comparison.differing));
     }
-    for (place, number) in NUMBERS.iter().enumerate() {
-        let (resolved, read) = (comparison.resolved[place], comparison.read[place]);
-        if resolved < LEAST_TIMES && !READ_ONLY.contains(number) {
-            reasons.push(too_rare("number", *number, resolved));
-        }
-        if read < LEAST_TIMES && !ADDRESS_ONLY.contains(number) {
-            reasons.push(too_rare("number in a read", *number, read));
-        }
-    }
+    reasons.extend(comparison.resolved.reasons(&address_numbers()));
+    reasons.extend(comparison.read.reasons(&read_numbers()));
     for (chain, [_, found]) in comparison.chains.iter().enumerate() {
         if *found < LEAST_TIMES {
-            reasons.push(too_rare("found at depth", chain as u64, *found));
+            reasons.push(format!(
+                "found at depth {} came up {} times, wanted {}",
+                chain, found, LEAST_TIMES
+            ));
         }
     }
     if comparison.most_entries != MOST_ENTRIES {
@@ -282,13 +266,6 @@ fn reasons_to_fail(comparison: &Comparison) -> Vec<String> {
         .iter()
         .for_each(|stated| judge_stated(stated, &mut reasons));
     reasons
-}
-
-fn too_rare(what: &str, number: u64, times: u64) -> String {
-    format!(
-        "{} {} came up {} times, wanted {}",
-        what, number, times, LEAST_TIMES
-    )
 }
 
 /// Both walks against an answer that a paper states.

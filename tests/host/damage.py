@@ -3,6 +3,7 @@ import json
 import random
 
 from cases import PAGE, SHIPPED, block_case, list_case, make_case
+from expected import REFUSALS
 from library import Library
 from program import run
 
@@ -59,7 +60,7 @@ class Damage:
         if done.returncode not in (0, 1) or any(word in done.stderr for word in SANITIZER_WORDS):
             raise Fault(f"{words}: exit status {done.returncode}\n{done.stderr.decode(errors='replace')}")
         answers = json.loads(done.stdout)["answers"]
-        if done.returncode != any(one["number"] >= 10 for one in answers):
+        if done.returncode != any(one["number"] in REFUSALS for one in answers):
             raise Fault(f"{words}: exit status {done.returncode} for {answers}")
         return answers
 

@@ -22,7 +22,7 @@ SHIPPED_MAP = bytes.fromhex("01b416101b010201011b0101010503011601010105170118011
 
 def place(address, number, offset=0, entries=None):
     """The line for a place or a refusal."""
-    line = f"0x{address:016X}  {number:2} " + (PLACES[number] if number < 10 else "refused: " + REFUSALS[number])
+    line = f"0x{address:016X}  {number:2} " + (PLACES[number] if number in PLACES else "refused: " + REFUSALS[number])
     line += f", offset 0x{offset:X}" if number in (1, 2) else ""
     if entries is not None:
         line += f", {entries} {'entry' if entries == 1 else 'entries'} read"
