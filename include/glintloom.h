@@ -16,44 +16,53 @@
 extern "C" {
 #endif
 
-/* The numbers of the answers, each as (name, number, words). */
-#define GLINT_ANSWERS(X)                                                                \
-    X(DONE, 0, "done")                                                                  \
-    X(IN_IMAGE, 1, "found in the image")                                                \
-    X(IN_PAGEFILE, 2, "found in the pagefile")                                          \
-    X(ZEROS, 3, "page of zeros, by the tables")
+/* What the number of an answer is about. */
+enum glint_kind {
+    GLINT_KIND_ANSWER,     /* the call answers, with no place in a file */
+    GLINT_KIND_PLACE,      /* it answers with a place in a file */
+    GLINT_KIND_CASE,       /* it refuses the case as a whole; some of these refuse a map too */
+    GLINT_KIND_ADDRESS,    /* it refuses an address of the case */
+    GLINT_KIND_CALL        /* it refuses by a rule of its own, on maps, reads, lists or blocks */
+};
 
-/* The numbers of the refusals, each as (name, number, words). */
-#define GLINT_REFUSALS(X)                                                               \
-    X(TRUNCATED, 10, "sheet or map ends inside a number, or before its last field")     \
-    X(NUMBER_MALFORMED, 11, "number over 6 groups or not shortest")                     \
-    X(OUT_OF_LIMITS, 12, "edition, or a number outside its stated limits")              \
-    X(BAD_RUN, 13, "run gap, length or end wrong")                                      \
-    X(TRAILING_BYTES, 14, "bytes after the last field")                                 \
-    X(IMAGE_LENGTH_DIFFERS, 15, "image length is not the sum of the runs")              \
-    X(PAGEFILE_NOT_WHOLE_PAGES, 16, "pagefile length not a multiple of 4,096")          \
-    X(NOT_CANONICAL, 20, "address not canonical, or past the top")                      \
-    X(UPPER_ENTRY_NOT_VALID, 21, "first or second level entry not valid")               \
-    X(REGION_NEEDED, 22, "region record needed")                                        \
-    X(FRAME_IN_NO_RUN, 23, "frame in no run")                                           \
-    X(FRAME_TOO_WIDE, 24, "frame too wide")                                             \
-    X(FILE_BACKED, 25, "backed by a file")                                              \
-    X(OTHER_PAGEFILE, 26, "another pagefile")                                           \
-    X(PAST_PAGEFILE, 27, "past the pagefile's end")                                     \
-    X(PROTOTYPE_CHAIN_TOO_LONG, 28, "a fourth prototype entry would be needed")         \
-    X(PROTOTYPE_UNALIGNED, 29, "prototype address not a multiple of 8")                 \
-    X(BAD_MAP_RANGE, 40, "map range wrong")                                             \
-    X(OUTSIDE_MAP, 41, "address outside the map")                                       \
-    X(BAD_EXTENT, 43, "extent wrong")                                                   \
-    X(MAP_BUFFER_SHORT, 44, "map buffer too short")                                     \
-    X(READ_BUFFER_SHORT, 45, "read buffer too short")                                   \
-    X(LINK_UNALIGNED, 50, "list address not a multiple of 8")                           \
-    X(BACK_LINK_DIFFERS, 51, "back link differs")                                       \
-    X(TOO_MANY_PROCESSES, 52, "over 4,096 processes")                                   \
-    X(LIST_BUFFER_SHORT, 53, "list buffer too short")                                   \
-    X(NO_PROCESSOR_BLOCK, 55, "no processor block at or after the offset")
+/* The numbers of the answers, each as (name, number, kind, words). */
+#define GLINT_ANSWERS(X)                                                                        \
+    X(DONE, 0, ANSWER, "done")                                                                  \
+    X(IN_IMAGE, 1, PLACE, "found in the image")                                                 \
+    X(IN_PAGEFILE, 2, PLACE, "found in the pagefile")                                           \
+    X(ZEROS, 3, ANSWER, "page of zeros, by the tables")
 
-#define GLINT_ENUMERATOR(name, number, words) GLINT_##name = number,
+/* The numbers of the refusals, each as (name, number, kind, words). */
+#define GLINT_REFUSALS(X)                                                                       \
+    X(TRUNCATED, 10, CASE, "sheet or map ends inside a number, or before its last field")       \
+    X(NUMBER_MALFORMED, 11, CASE, "number over 6 groups or not shortest")                       \
+    X(OUT_OF_LIMITS, 12, CASE, "edition, or a number outside its stated limits")                \
+    X(BAD_RUN, 13, CASE, "run gap, length or end wrong")                                        \
+    X(TRAILING_BYTES, 14, CASE, "bytes after the last field")                                   \
+    X(IMAGE_LENGTH_DIFFERS, 15, CASE, "image length is not the sum of the runs")                \
+    X(PAGEFILE_NOT_WHOLE_PAGES, 16, CASE, "pagefile length not a multiple of 4,096")            \
+    X(NOT_CANONICAL, 20, ADDRESS, "address not canonical, or past the top")                     \
+    X(UPPER_ENTRY_NOT_VALID, 21, ADDRESS, "first or second level entry not valid")              \
+    X(REGION_NEEDED, 22, ADDRESS, "region record needed")                                       \
+    X(FRAME_IN_NO_RUN, 23, ADDRESS, "frame in no run")                                          \
+    X(FRAME_TOO_WIDE, 24, ADDRESS, "frame too wide")                                            \
+    X(FILE_BACKED, 25, ADDRESS, "backed by a file")                                             \
+    X(OTHER_PAGEFILE, 26, ADDRESS, "another pagefile")                                          \
+    X(PAST_PAGEFILE, 27, ADDRESS, "past the pagefile's end")                                    \
+    X(PROTOTYPE_CHAIN_TOO_LONG, 28, ADDRESS, "a fourth prototype entry would be needed")        \
+    X(PROTOTYPE_UNALIGNED, 29, ADDRESS, "prototype address not a multiple of 8")                \
+    X(BAD_MAP_RANGE, 40, CALL, "map range wrong")                                               \
+    X(OUTSIDE_MAP, 41, CALL, "address outside the map")                                         \
+    X(BAD_EXTENT, 43, CALL, "extent wrong")                                                     \
+    X(MAP_BUFFER_SHORT, 44, CALL, "map buffer too short")                                       \
+    X(READ_BUFFER_SHORT, 45, CALL, "read buffer too short")                                     \
+    X(LINK_UNALIGNED, 50, CALL, "list address not a multiple of 8")                             \
+    X(BACK_LINK_DIFFERS, 51, CALL, "back link differs")                                         \
+    X(TOO_MANY_PROCESSES, 52, CALL, "over 4,096 processes")                                     \
+    X(LIST_BUFFER_SHORT, 53, CALL, "list buffer too short")                                     \
+    X(NO_PROCESSOR_BLOCK, 55, CALL, "no processor block at or after the offset")
+
+#define GLINT_ENUMERATOR(name, number, kind, words) GLINT_##name = number,
 enum { GLINT_ANSWERS(GLINT_ENUMERATOR) GLINT_REFUSALS(GLINT_ENUMERATOR) GLINT_FIRST_REFUSAL = 10 };
 #undef GLINT_ENUMERATOR
 
