@@ -1,6 +1,6 @@
 #include "fail.h"
 
-#include "progress.h"
+#include "cleanup.h"
 
 #include <stdarg.h>
 #include <stdio.h>
@@ -11,7 +11,7 @@
 _Noreturn void fail(const char *format, ...)
 {
     va_list arguments;
-    end_progress();
+    clean_up();
     fflush(stdout);
     fputs("glintloom: ", stderr);
     va_start(arguments, format);

@@ -4,7 +4,7 @@
 
 enum { ANSWERED = 0, REFUSED = 1, FAILED = 2 };
 
-/* Prints a message on standard error and exits with FAILED. */
+/* Cleans up, prints a message on standard error and exits with FAILED. */
 _Noreturn void fail(const char *format, ...) __attribute__((format(printf, 1, 2)));
 
 /* Writes a text on standard error at once. May be called from a signal handler. */

@@ -1,8 +1,7 @@
 #include "mapped_file.h"
 
+#include "cleanup.h"
 #include "fail.h"
-#include "output_file.h"
-#include "progress.h"
 
 #include <errno.h>
 #include <fcntl.h>
@@ -30,8 +29,7 @@ static void end_for_lost_page(int signal_number, siginfo_t *info, void *context)
         uintptr_t start = (uintptr_t)mapped[i].file.bytes;
         if (fault < start || fault - start >= mapped[i].file.length)
             continue;
-        end_progress();
-        discard_unfinished_output();
+        clean_up();
         write_to_standard_error("glintloom: ");
         write_to_standard_error(mapped[i].name);
         write_to_standard_error(": was cut short, or its disk failed, while it was read\n");

@@ -1,5 +1,6 @@
 #include "output_file.h"
 
+#include "cleanup.h"
 #include "fail.h"
 #include "mapped_file.h"
 
@@ -17,7 +18,7 @@
 static char temporary[PATH_MAX];
 static volatile sig_atomic_t unfinished;
 
-void discard_unfinished_output(void)
+static void discard_unfinished(void)
 {
     if (unfinished)
         unlink(temporary);
@@ -26,34 +27,7 @@ void discard_unfinished_output(void)
 
 static _Noreturn void fail_to_write(const char *name)
 {
-    const char *reason = strerror(errno);
-    discard_unfinished_output();
-    fail("%s: %s", name, reason);
-}
-
-static void discard_and_end(int signal_number)
-{
-    discard_unfinished_output();
-    signal(signal_number, SIG_DFL);
-    raise(signal_number);
-}
-
-static bool ends_by_default(int signal_number)
-{
-    static const int others[] = {SIGCHLD, SIGCONT, SIGTSTP, SIGTTIN, SIGTTOU, SIGURG, SIGWINCH};
-    for (size_t i = 0; i < sizeof others / sizeof others[0]; i++)
-        if (signal_number == others[i])
-            return false;
-    return true;
-}
-
-/* No temporary file stays behind if a signal ends the program; one that is ignored or handled stays so. */
-static void watch_for_end(void)
-{
-    struct sigaction before, action = {.sa_handler = discard_and_end};
-    for (int number = 1; number <= SIGRTMAX; number++)
-        if (ends_by_default(number) && sigaction(number, NULL, &before) == 0 && before.sa_handler == SIG_DFL)
-            sigaction(number, &action, NULL);
+    fail("%s: %s", name, strerror(errno));
 }
 
 static bool write_all(int descriptor, const uint8_t *bytes, size_t length)
@@ -109,7 +83,8 @@ static bool set_owner_and_mode(int descriptor, const struct stat *replaced)
 /* `replaced` is NULL if there is no such file yet. */
 static void write_whole(const char *name, const struct stat *replaced, const uint8_t *bytes, size_t length)
 {
-    watch_for_end();
+    add_cleanup(discard_unfinished);
+    clean_up_on_signals();
     int descriptor = open_temporary(name);
     if (descriptor < 0 || !set_owner_and_mode(descriptor, replaced) || !write_all(descriptor, bytes, length) ||
         fsync(descriptor) != 0 || close(descriptor) != 0 || rename(temporary, name) != 0)

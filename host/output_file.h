@@ -10,7 +10,4 @@
  * output or standard error. */
 void write_output_file(const char *name, const uint8_t *bytes, size_t length);
 
-/* Removes the temporary file, if there is one. May be called from a signal handler. */
-void discard_unfinished_output(void);
-
 #endif

@@ -1,5 +1,6 @@
 #include "progress.h"
 
+#include "cleanup.h"
 #include "fail.h"
 
 #include <errno.h>
@@ -68,6 +69,7 @@ void start_progress(void)
     if (!isatty(STDERR_FILENO))
         return;
     sigaction(SIGALRM, &action, NULL);
+    add_cleanup(end_progress);
     running = true;
     set_timer(1);
 }

@@ -1,7 +1,7 @@
 #include "report.h"
 
+#include "answer_numbers.h"
 #include "fail.h"
-#include "glintloom.h"
 #include "hex_dump.h"
 #include "progress.h"
 
@@ -16,22 +16,6 @@ static const char *verb_reported;
 static bool report_open;  /* JSON: the document has begun */
 static bool comma_due;    /* JSON: something stands before in this object or array */
 static bool line_open;    /* lines: the item's line has no end yet */
-
-const char *words_of(uint64_t number)
-{
-#define WORDS(name, value, words) case value: return words;
-    switch (number) {
-        GLINT_ANSWERS(WORDS)
-        GLINT_REFUSALS(WORDS)
-    }
-#undef WORDS
-    return NULL;
-}
-
-bool is_refusal(uint64_t number)
-{
-    return number >= GLINT_FIRST_REFUSAL;
-}
 
 static void check_output(bool written)
 {
@@ -158,7 +142,7 @@ void add_offset(uint64_t number, uint64_t offset)
 {
     if (json)
         put_json_hex("offset", offset);
-    else if (number == GLINT_IN_IMAGE || number == GLINT_IN_PAGEFILE)
+    else if (has_kind(number, GLINT_KIND_PLACE))
         printf(", offset 0x%" PRIX64, offset);
 }
 

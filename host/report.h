@@ -7,10 +7,6 @@
 #include <stddef.h>
 #include <stdint.h>
 
-/* The words of a number, or NULL if no answer has it. */
-const char *words_of(uint64_t number);
-bool is_refusal(uint64_t number);
-
 void begin_report(const char *verb, bool json);
 void end_report(void);
 

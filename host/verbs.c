@@ -1,5 +1,6 @@
 #include "verbs.h"
 
+#include "answer_numbers.h"
 #include "fail.h"
 #include "glintloom.h"
 #include "mapped_file.h"
@@ -174,7 +175,7 @@ static struct read_range resolve_pages(const struct case_files *files, uint64_t 
 /* The first address of a refused read that is refused by itself; false for a fault of the case, and past the top. */
 static bool first_refused(const struct case_files *files, uint64_t number, struct read_range range, uint64_t *refused)
 {
-    if (number < GLINT_NOT_CANONICAL)
+    if (!has_kind(number, GLINT_KIND_ADDRESS))
         return false;
     for (uint64_t page = 0;; page++) {
         uint64_t first = first_byte(&range, page);
@@ -323,7 +324,7 @@ int list_verb(const struct command *command)
 
 static void explain_all(void)
 {
-#define EXPLAIN(name, number, words) report_number(number);
+#define EXPLAIN(name, number, kind, words) report_number(number);
     GLINT_ANSWERS(EXPLAIN)
     GLINT_REFUSALS(EXPLAIN)
 #undef EXPLAIN

@@ -1,14 +1,12 @@
 //! The bytes behind addresses: reading a run of them, and an address's whole page.
 
+use super::codes::{IMAGE, NOT_CANONICAL, PAGEFILE};
 use super::number::Refusal;
 use super::slip::Slip;
-use super::walk::{Files, Place, Walk, NOT_CANONICAL, PAGE_BYTES};
+use super::walk::{Files, Place, Walk, PAGE_BYTES};
 
 /// The read buffer is too short.
 const BUFFER_TOO_SHORT: Refusal = 45;
-
-const IMAGE: u64 = 1;
-const PAGEFILE: u64 = 2;
 
 /// What a read says; the bytes themselves are in the lent buffer.
 pub struct Bytes {

@@ -1,8 +1,9 @@
 //! The processor-block search in the image, and the process list.
 
+use super::codes::{IMAGE, NOT_CANONICAL, REGION_NEEDED};
 use super::number::Refusal;
 use super::slip::Slip;
-use super::walk::{bits, is_canonical, word_at, Files, Place, Walk, NOT_CANONICAL, PAGE_BYTES};
+use super::walk::{bits, is_canonical, word_at, Files, Place, Walk, PAGE_BYTES};
 
 /// A list address is not a multiple of 8.
 const UNALIGNED_LINK: Refusal = 50;
@@ -14,8 +15,6 @@ const TOO_MANY_PROCESSES: Refusal = 52;
 const BUFFER_TOO_SHORT: Refusal = 53;
 /// No processor block at or after the offset.
 const NO_BLOCK: Refusal = 55;
-
-const IN_IMAGE: u64 = 1;
 
 const WORD_BYTES: u64 = 8;
 /// Where a block has its own address.
@@ -130,7 +129,7 @@ impl Search<'_> {
         self.entries += self.walk.entries_read();
         if leads_back(place, offset, self.slip) {
             self.found = Some(Block {
-                number: IN_IMAGE,
+                number: IMAGE,
                 offset,
                 entries: match self.slip {
                     Slip::CountOfAllCandidates => self.entries,
@@ -431,7 +430,7 @@ impl List<'_> {
             Place::Image(offset) => Ok(word_at(self.files.image, offset + past)),
             Place::Pagefile(_) if self.slip == Slip::LinkInPagefileUnread => Ok(0),
             Place::Pagefile(offset) => Ok(word_at(self.files.pagefile, offset + past)),
-            Place::Zeros if self.slip == Slip::LinkInZerosRefused => Err(22),
+            Place::Zeros if self.slip == Slip::LinkInZerosRefused => Err(REGION_NEEDED),
             Place::Zeros => Ok(0),
         }
     }

@@ -1,9 +1,12 @@
 //! Maps: the pages of a range written as extents, and an address looked up in them.
 
+use super::codes::{
+    has_page, is_code, refuses, IMAGE, NOT_CANONICAL, PAGEFILE, UNALIGNED_PROTOTYPE, ZEROS,
+};
 use super::number::{append, Numbers, Refusal, NUMBER_LIMIT, OUTSIDE_LIMITS};
 use super::sheet::BYTES_AFTER_LAST_FIELD;
 use super::slip::Slip;
-use super::walk::{is_canonical, Files, Place, Walk, NOT_CANONICAL, PAGE_BYTES};
+use super::walk::{is_canonical, Files, Place, Walk, PAGE_BYTES};
 
 /// The map range is wrong.
 const RANGE_WRONG: Refusal = 40;
@@ -20,12 +23,6 @@ const EDITION: u64 = 1;
 pub const MOST_PAGES: u64 = 1 << 20;
 /// The pages of one half of the address space.
 pub const HALF_PAGES: u64 = 1 << 35;
-
-const IMAGE: u64 = 1;
-const PAGEFILE: u64 = 2;
-const ZEROS: u64 = 3;
-const FIRST_REFUSAL: u64 = 21;
-const LAST_REFUSAL: u64 = 29;
 
 /// What a map call says; the map itself is in the lent buffer.
 pub struct Written {
@@ -182,10 +179,6 @@ fn layout(walk: &mut Walk, start: u64, pages: u64, slip: Slip) -> Vec<u8> {
     bytes
 }
 
-fn has_page(code: u64) -> bool {
-    code == IMAGE || code == PAGEFILE
-}
-
 /// The answers for all pages in order, neighbours joined.
 fn extents(walk: &mut Walk, first: u64, pages: u64, slip: Slip) -> Vec<Extent> {
     let mut extents: Vec<Extent> = Vec::new();
@@ -227,7 +220,7 @@ fn extent_of_page(place: Result<Place, Refusal>, slip: Slip) -> Extent {
 /// Whether the next page belongs to the open extent.
 fn belongs(open: &Extent, next: &Extent, slip: Slip) -> bool {
     let both_files = has_page(open.code) && has_page(next.code);
-    let both_refused = open.code >= FIRST_REFUSAL && next.code >= FIRST_REFUSAL;
+    let both_refused = refuses(open.code) && refuses(next.code);
     let next_page = open.first_page + open.length == next.first_page;
     let same_code = open.code == next.code;
     match slip {
@@ -251,7 +244,7 @@ fn spoil(extents: &mut Vec<Extent>, pages: u64, slip: Slip) {
         Slip::FirstExtentOnly if extents.len() > 1 => {
             extents.truncate(1);
             extents.push(Extent {
-                code: LAST_REFUSAL,
+                code: u64::from(UNALIGNED_PROTOTYPE),
                 length: pages - extents[0].length,
                 first_page: 0,
             });
@@ -528,9 +521,9 @@ fn is_listed(code: u64, slip: Slip) -> bool {
     match slip {
         Slip::CodeZeroTaken if code == 0 => true,
         Slip::CodeFourTaken if code == ZEROS + 1 => true,
-        Slip::CodeTwentyTaken if code == FIRST_REFUSAL - 1 => true,
-        Slip::CodeThirtyTaken if code == LAST_REFUSAL + 1 => true,
-        _ => matches!(code, IMAGE..=ZEROS | FIRST_REFUSAL..=LAST_REFUSAL),
+        Slip::CodeTwentyTaken if code == u64::from(NOT_CANONICAL) => true,
+        Slip::CodeThirtyTaken if code == u64::from(UNALIGNED_PROTOTYPE) + 1 => true,
+        _ => is_code(code),
     }
 }
 
@@ -565,7 +558,7 @@ fn continues(before: &Extent, extent: &Extent, slip: Slip) -> bool {
         Slip::UnjoinedTaken => false,
         Slip::UnjoinedFileTaken if both_files => false,
         Slip::UnjoinedZerosTaken if before.code == ZEROS => false,
-        Slip::UnjoinedRefusalTaken if before.code >= FIRST_REFUSAL => false,
+        Slip::UnjoinedRefusalTaken if refuses(before.code) => false,
         Slip::SameCodeRefused => same_code,
         Slip::NextPageOfOtherFileRefused if both_files => next_page,
         _ => same_code && (next_page || !both_files),

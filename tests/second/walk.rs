@@ -1,29 +1,13 @@
 //! One address: the walk through four levels of tables, and the states of an entry.
 
+use super::codes::{
+    BACKED_BY_FILE, FOURTH_PROTOTYPE, FRAME_IN_NO_RUN, FRAME_TOO_WIDE, IMAGE, NOT_CANONICAL,
+    OTHER_PAGEFILE, PAGEFILE, PAST_PAGEFILE, REGION_NEEDED, TABLE_NOT_VALID, UNALIGNED_PROTOTYPE,
+    ZEROS,
+};
 use super::number::Refusal;
 use super::sheet::{check_sheet, Case};
 use super::slip::Slip;
-
-/// The address is not canonical, or past the top.
-pub const NOT_CANONICAL: Refusal = 20;
-/// A first or second level entry is not valid.
-const TABLE_NOT_VALID: Refusal = 21;
-/// A region record is needed.
-const REGION_NEEDED: Refusal = 22;
-/// The frame is in no run.
-const FRAME_IN_NO_RUN: Refusal = 23;
-/// The frame is too wide.
-const FRAME_TOO_WIDE: Refusal = 24;
-/// The page is backed by a file.
-const BACKED_BY_FILE: Refusal = 25;
-/// The page is in another pagefile.
-const OTHER_PAGEFILE: Refusal = 26;
-/// The page is past the pagefile's end.
-const PAST_PAGEFILE: Refusal = 27;
-/// A fourth prototype entry would be needed.
-const FOURTH_PROTOTYPE: Refusal = 28;
-/// The prototype address is not a multiple of 8.
-const UNALIGNED_PROTOTYPE: Refusal = 29;
 
 pub const PAGE_BYTES: u64 = 4096;
 const ENTRY_BYTES: u64 = 8;
@@ -152,10 +136,10 @@ impl<'a> Walk<'a> {
             _ => self.consulted.len() as u64,
         };
         let (number, offset) = match (place, self.slip) {
-            (Ok(Place::Image(offset)), _) => (1, offset),
-            (Ok(Place::Pagefile(offset)), _) => (2, offset),
-            (Ok(Place::Zeros), Slip::ZerosKeepPlace) => (3, bits(address, 0, 11)),
-            (Ok(Place::Zeros), _) => (3, 0),
+            (Ok(Place::Image(offset)), _) => (IMAGE, offset),
+            (Ok(Place::Pagefile(offset)), _) => (PAGEFILE, offset),
+            (Ok(Place::Zeros), Slip::ZerosKeepPlace) => (ZEROS, bits(address, 0, 11)),
+            (Ok(Place::Zeros), _) => (ZEROS, 0),
             (Err(refusal), Slip::RefusalKeepsPlace) => (u64::from(refusal), bits(address, 0, 11)),
             (Err(refusal), _) => (u64::from(refusal), 0),
         };

@@ -1,0 +1,133 @@
+/* The calls of the Glintloom library.
+ *
+ * Any bytes may be handed in, damaged or not: each call ends with its answer or with one refusal, and a refused call
+ * leaves `out` as it was. C keeps what the library cannot see:
+ *   - each pointer is valid for its length (NULL with length 0 is an empty slice), and each length is the true one;
+ *   - `out` lies apart from the inputs;
+ *   - nobody changes the inputs, or the files that they are mapped from, during the call.
+ * `sheet` is the case sheet, `image` the raw memory image, `pagefile` the pagefile (length 0 if there is none). */
+#ifndef GLINTLOOM_H
+#define GLINTLOOM_H
+
+#include <stddef.h>
+#include <stdint.h>
+
+#ifdef __cplusplus
+extern "C" {
+#endif
+
+/* What the number of an answer is about. */
+enum glint_kind {
+    GLINT_KIND_ANSWER,     /* the call answers, with no place in a file */
+    GLINT_KIND_PLACE,      /* it answers with a place in a file */
+    GLINT_KIND_CASE,       /* it refuses the case as a whole; some of these refuse a map too */
+    GLINT_KIND_ADDRESS,    /* it refuses an address of the case */
+    GLINT_KIND_CALL        /* it refuses by a rule of its own, on maps, reads, lists or blocks */
+};
+
+/* The numbers of the answers, each as (name, number, kind, words). */
+#define GLINT_ANSWERS(X)                                                                        \
+    X(DONE, 0, ANSWER, "done")                                                                  \
+    X(IN_IMAGE, 1, PLACE, "found in the image")                                                 \
+    X(IN_PAGEFILE, 2, PLACE, "found in the pagefile")                                           \
+    X(ZEROS, 3, ANSWER, "page of zeros, by the tables")
+
+/* The numbers of the refusals, each as (name, number, kind, words). */
+#define GLINT_REFUSALS(X)                                                                       \
+    X(TRUNCATED, 10, CASE, "sheet or map ends inside a number, or before its last field")       \
+    X(NUMBER_MALFORMED, 11, CASE, "number over 6 groups or not shortest")                       \
+    X(OUT_OF_LIMITS, 12, CASE, "edition, or a number outside its stated limits")                \
+    X(BAD_RUN, 13, CASE, "run gap, length or end wrong")                                        \
+    X(TRAILING_BYTES, 14, CASE, "bytes after the last field")                                   \
+    X(IMAGE_LENGTH_DIFFERS, 15, CASE, "image length is not the sum of the runs")                \
+    X(PAGEFILE_NOT_WHOLE_PAGES, 16, CASE, "pagefile length not a multiple of 4,096")            \
+    X(NOT_CANONICAL, 20, ADDRESS, "address not canonical, or past the top")                     \
+    X(UPPER_ENTRY_NOT_VALID, 21, ADDRESS, "first or second level entry not valid")              \
+    X(REGION_NEEDED, 22, ADDRESS, "region record needed")                                       \
+    X(FRAME_IN_NO_RUN, 23, ADDRESS, "frame in no run")                                          \
+    X(FRAME_TOO_WIDE, 24, ADDRESS, "frame too wide")                                            \
+    X(FILE_BACKED, 25, ADDRESS, "backed by a file")                                             \
+    X(OTHER_PAGEFILE, 26, ADDRESS, "another pagefile")                                          \
+    X(PAST_PAGEFILE, 27, ADDRESS, "past the pagefile's end")                                    \
+    X(PROTOTYPE_CHAIN_TOO_LONG, 28, ADDRESS, "a fourth prototype entry would be needed")        \
+    X(PROTOTYPE_UNALIGNED, 29, ADDRESS, "prototype address not a multiple of 8")                \
+    X(BAD_MAP_RANGE, 40, CALL, "map range wrong")                                               \
+    X(OUTSIDE_MAP, 41, CALL, "address outside the map")                                         \
+    X(BAD_EXTENT, 43, CALL, "extent wrong")                                                     \
+    X(MAP_BUFFER_SHORT, 44, CALL, "map buffer too short")                                       \
+    X(READ_BUFFER_SHORT, 45, CALL, "read buffer too short")                                     \
+    X(LINK_UNALIGNED, 50, CALL, "list address not a multiple of 8")                             \
+    X(BACK_LINK_DIFFERS, 51, CALL, "back link differs")                                         \
+    X(TOO_MANY_PROCESSES, 52, CALL, "over 4,096 processes")                                     \
+    X(LIST_BUFFER_SHORT, 53, CALL, "list buffer too short")                                     \
+    X(NO_PROCESSOR_BLOCK, 55, CALL, "no processor block at or after the offset")
+
+#define GLINT_ENUMERATOR(name, number, kind, words) GLINT_##name = number,
+enum { GLINT_ANSWERS(GLINT_ENUMERATOR) GLINT_REFUSALS(GLINT_ENUMERATOR) GLINT_FIRST_REFUSAL = 10 };
+#undef GLINT_ENUMERATOR
+
+enum {
+    GLINT_PAGE_BYTES = 4096,
+    GLINT_MAP_PAGES = 1 << 20,     /* a map's range has at most these */
+    GLINT_LIST_PROCESSES = 4096    /* a list has at most these, so `out` of this length is never too short */
+};
+
+/* No map is longer: 1, 6 and 3 bytes before the extents, then at most 8 bytes a page (code 1, length 1, first page 6). */
+#define GLINT_MAP_BYTES ((size_t)10 + (size_t)8 * GLINT_MAP_PAGES)
+
+/* number: 1 or 2 (then offset is the addressed byte's in the image or pagefile), 3, or a refusal (offset is 0 for these);
+ * entries: page table and prototype entries read, again if read again, at most 19. */
+typedef struct { uint64_t number, offset, entries; } glint_answer;
+
+/* number: 0, or a refusal (then length and zeros are 0); length: bytes written; zeros: 1 if a byte came from a page of zeros. */
+typedef struct { uint64_t number, length, zeros; } glint_bytes;
+
+/* file: 1 image, 2 pagefile, 0 the empty part (then offset and length are 0). */
+typedef struct { uint64_t file, offset, length; } glint_part;
+
+/* number: 0, or a refusal (then length is 0); length: elements of `out` written. */
+typedef struct { uint64_t number, length; } glint_written;
+
+/* number: 1, 2, 3 or 21 to 29 as the map has it, or a refusal of the lookup; offset: for 1 and 2 the addressed byte's, else 0. */
+typedef struct { uint64_t number, offset; } glint_found;
+
+/* Where an address leads. */
+glint_answer glint_resolve(const uint8_t *sheet, size_t sheet_length, const uint8_t *image, size_t image_length,
+                           const uint8_t *pagefile, size_t pagefile_length, uint64_t address);
+
+/* The 4,096 bytes of an address's page, as a part of one of the two files; the empty part for a page of zeros and for
+ * refusals, which glint_resolve tells apart. */
+glint_part glint_page(const uint8_t *sheet, size_t sheet_length, const uint8_t *image, size_t image_length,
+                      const uint8_t *pagefile, size_t pagefile_length, uint64_t address);
+
+/* n bytes from an address on into `out`: all of them, or the refusal of the first byte that has one; 45 if n is more than
+ * out_length. Bytes past n stay. */
+glint_bytes glint_read(const uint8_t *sheet, size_t sheet_length, const uint8_t *image, size_t image_length,
+                       const uint8_t *pagefile, size_t pagefile_length, uint64_t address, uint64_t n,
+                       uint8_t *out, size_t out_length);
+
+/* The map of `pages` pages (1 to 2^20) from `start` (a multiple of 4,096) on into `out`: 44 exactly if it is longer than
+ * `out`. Bytes past the map stay. */
+glint_written glint_map(const uint8_t *sheet, size_t sheet_length, const uint8_t *image, size_t image_length,
+                        const uint8_t *pagefile, size_t pagefile_length, uint64_t start, uint64_t pages,
+                        uint8_t *out, size_t out_length);
+
+/* What a map has for an address; the map's own faults come first. */
+glint_found glint_lookup(const uint8_t *map, size_t map_length, uint64_t address);
+
+/* The processor block of 64-bit Windows 7 with the smallest image offset not below `from`: number 1, its offset, and the
+ * entries read for its own address; or 55. */
+glint_answer glint_processor_block(const uint8_t *sheet, size_t sheet_length, const uint8_t *image, size_t image_length,
+                                   const uint8_t *pagefile, size_t pagefile_length, uint64_t from);
+
+/* The node addresses of the list from `head` on, in order and without `head`, into `out`; out_length counts 64-bit numbers,
+ * and so does the answer's length. Numbers past it stay. */
+glint_written glint_process_list(const uint8_t *sheet, size_t sheet_length, const uint8_t *image, size_t image_length,
+                                 const uint8_t *pagefile, size_t pagefile_length, uint64_t head,
+                                 uint64_t *out, size_t out_length);
+
+#ifdef __cplusplus
+}
+#endif
+
+#endif

@@ -1,0 +1,113 @@
+#include "case.h"
+
+#include <string.h>
+
+enum { FRAMES = WALK_IMAGE_BYTES / PAGE_BYTES, NODE_BYTES = 16 };
+
+#define KERNEL 0xFFFFFA8000000000u
+
+uint64_t next_random(void) {
+    static uint64_t state = 88172645463325252u;
+    state ^= state << 13;
+    state ^= state >> 7;
+    state ^= state << 17;
+    return state;
+}
+
+static void shuffle(uint64_t *numbers, size_t count) {
+    for (size_t i = count - 1; i > 0; i--) {
+        size_t j = next_random() % (i + 1);
+        uint64_t kept = numbers[i];
+        numbers[i] = numbers[j];
+        numbers[j] = kept;
+    }
+}
+
+static void put_number(struct bench_case *c, uint64_t n) {
+    for (; n >= 128; n /= 128) c->sheet[c->sheet_length++] = (uint8_t)(128 + n % 128);
+    c->sheet[c->sheet_length++] = (uint8_t)n;
+}
+
+/* Runs of equal length, one frame apart. */
+static void make_runs(struct bench_case *c, size_t run_count) {
+    uint64_t pages = c->image_length / PAGE_BYTES / run_count;
+    c->run_count = run_count;
+    c->sheet_length = 0;
+    put_number(c, 1);
+    put_number(c, 0);
+    put_number(c, run_count);
+    for (size_t i = 0; i < run_count; i++) {
+        c->rows[3 * i] = i * (pages + 1);
+        c->rows[3 * i + 1] = c->rows[3 * i] + pages;
+        c->rows[3 * i + 2] = i;
+        put_number(c, i != 0);
+        put_number(c, pages);
+    }
+}
+
+static uint64_t frame_of(const struct bench_case *c, uint64_t page) { return page + page / (FRAMES / c->run_count); }
+
+static void put_word(struct bench_case *c, uint64_t page, uint64_t place, uint64_t word) {
+    memcpy(c->image + page * PAGE_BYTES + place, &word, 8);
+}
+
+/* A valid entry in the table at image page `table`, for the frame of image page `to`. */
+static void put_entry(struct bench_case *c, uint64_t table, uint64_t index, uint64_t to) {
+    put_word(c, table, 8 * index, frame_of(c, to) << 12 | 1);
+}
+
+/* Tables for MAPPED_PAGES pages, which lead to any pages of the image: 1 + 4 + 2,048 of them.
+ * Takes the first of `unused`, and hands back the rest. */
+static const uint64_t *map_pages(struct bench_case *c, const uint64_t *unused) {
+    const uint64_t *pointers = unused, *directories = unused + 1, *tables = directories + 4, *behind = tables + 2048;
+    put_entry(c, 0, 0, *pointers);
+    for (uint64_t i = 0; i < 4; i++) put_entry(c, *pointers, i, directories[i]);
+    for (uint64_t i = 0; i < 2048; i++) put_entry(c, directories[i / 512], i % 512, tables[i]);
+    for (uint64_t i = 0; i < MAPPED_PAGES; i++) put_entry(c, tables[i / 512], i % 512, next_random() % FRAMES);
+    return behind;
+}
+
+/* The head and each node in a page of its own, linked in a shuffled order. */
+static void make_list(struct bench_case *c, const uint64_t *unused) {
+    static uint64_t order[LIST_NODES + 1], places[LIST_NODES + 1];
+    enum { CELLS = LIST_NODES + 1, TABLES = (CELLS + 511) / 512 };
+    const uint64_t *pointers = unused, *directory = unused + 1, *tables = directory + 1, *pages = tables + TABLES;
+    put_entry(c, 0, KERNEL >> 39 & 511, *pointers);
+    put_entry(c, *pointers, KERNEL >> 30 & 511, *directory);
+    for (uint64_t i = 0; i < TABLES; i++) put_entry(c, *directory, (KERNEL >> 21 & 511) + i, tables[i]);
+    for (uint64_t i = 0; i < CELLS; i++) {
+        put_entry(c, tables[i / 512], i % 512, pages[i]);
+        order[i] = i;
+        places[i] = next_random() % ((PAGE_BYTES - NODE_BYTES) / 8 + 1) * 8;
+    }
+    shuffle(order, CELLS);
+    for (uint64_t i = 0; i < CELLS; i++) {
+        uint64_t from = order[i], to = order[(i + 1) % CELLS];
+        put_word(c, pages[from], places[from], KERNEL + to * PAGE_BYTES + places[to]);
+        put_word(c, pages[to], places[to] + 8, KERNEL + from * PAGE_BYTES + places[from]);
+    }
+    c->list_head = KERNEL + order[0] * PAGE_BYTES + places[order[0]];
+}
+
+void make_walk_case(struct bench_case *c, uint8_t *image, size_t run_count) {
+    static uint64_t free_pages[FRAMES - 1];
+    c->image = image;
+    c->image_length = WALK_IMAGE_BYTES;
+    make_runs(c, run_count);
+    memset(image, 0, c->image_length);
+    for (uint64_t i = 0; i < FRAMES - 1; i++) free_pages[i] = i + 1;
+    shuffle(free_pages, FRAMES - 1);
+    make_list(c, map_pages(c, free_pages));
+}
+
+void make_search_case(struct bench_case *c, uint8_t *image, bool zeros) {
+    c->image = image;
+    c->image_length = SEARCH_IMAGE_BYTES;
+    make_runs(c, 1);
+    memset(image, 0, c->image_length);
+    for (size_t o = 0; !zeros && o < c->image_length; o += 8) {
+        uint64_t word = next_random();
+        if (word % 16 == 0) word |= KERNEL;
+        memcpy(image + o, &word, 8);
+    }
+}

@@ -1,0 +1,40 @@
+/* The cases that the benchmarks are run on. */
+#ifndef CASE_H
+#define CASE_H
+
+#include <stdbool.h>
+#include <stddef.h>
+#include <stdint.h>
+
+enum {
+    PAGE_BYTES = 4096,
+    MOST_RUNS = 32,
+    MAPPED_PAGES = 1 << 20,
+    LIST_NODES = 4096
+};
+
+#define WALK_IMAGE_BYTES ((size_t)64 << 20)
+#define SEARCH_IMAGE_BYTES ((size_t)256 << 20)
+
+/* A sheet and an image; the pagefile is empty and the directory is frame 0. */
+struct bench_case {
+    uint8_t *image;
+    size_t image_length;
+    uint8_t sheet[512];
+    size_t sheet_length;
+    uint64_t rows[3 * MOST_RUNS]; /* the runs as crates/sheet hands them to the walk */
+    size_t run_count;
+    uint64_t list_head;
+};
+
+uint64_t next_random(void);
+
+/* An image in so many runs, whose tables map MAPPED_PAGES pages from address 0 on, and a list of LIST_NODES nodes in
+ * kernel space. `image` has room for WALK_IMAGE_BYTES. */
+void make_walk_case(struct bench_case *c, uint8_t *image, size_t run_count);
+
+/* An image of one run without a processor block: zeros, or any words of which one in 16 is a kernel address.
+ * `image` has room for SEARCH_IMAGE_BYTES. */
+void make_search_case(struct bench_case *c, uint8_t *image, bool zeros);
+
+#endif

@@ -1,0 +1,327 @@
+#include "in_c.h"
+
+#include <stdbool.h>
+#include <string.h>
+
+enum { PAGE_BYTES = 4096, MOST_RUNS = 32, MOST_NODES = 4096 };
+
+/* Refusals, as document 01 numbers them. */
+enum {
+    TRUNCATED = 10,
+    NUMBER_MALFORMED = 11,
+    OUT_OF_LIMITS = 12,
+    BAD_RUN = 13,
+    TRAILING_BYTES = 14,
+    IMAGE_LENGTH_DIFFERS = 15,
+    PAGEFILE_NOT_WHOLE_PAGES = 16,
+    NOT_CANONICAL = 20,
+    UPPER_ENTRY_NOT_VALID = 21,
+    REGION_NEEDED = 22,
+    FRAME_IN_NO_RUN = 23,
+    FRAME_TOO_WIDE = 24,
+    BAD_MAP_RANGE = 40,
+    MAP_BUFFER_SHORT = 44,
+    READ_BUFFER_SHORT = 45,
+    LINK_UNALIGNED = 50,
+    BACK_LINK_DIFFERS = 51,
+    TOO_MANY_PROCESSES = 52,
+    LIST_BUFFER_SHORT = 53,
+    NO_PROCESSOR_BLOCK = 55
+};
+
+#define NO_PAGE UINT64_MAX
+
+/* What the walk looks at. */
+struct world {
+    const uint64_t *rows;
+    size_t row_numbers;
+    uint64_t directory;
+    const uint8_t *image;
+    uint64_t image_length;
+};
+
+/* ---- the sheet */
+
+struct sheet {
+    uint64_t directory;
+    uint64_t rows[3 * MOST_RUNS];
+    size_t row_numbers;
+};
+
+static uint64_t read_field(const uint8_t *bytes, size_t length, size_t *at, uint64_t *value) {
+    *value = 0;
+    for (int shift = 0; shift < 42; shift += 7) {
+        if (*at == length) return TRUNCATED;
+        uint64_t group = bytes[(*at)++];
+        *value |= (group & 127) << shift;
+        if (group >= 128) continue;
+        if (group == 0 && shift > 0) return NUMBER_MALFORMED;
+        return *value >> 36 ? OUT_OF_LIMITS : 0;
+    }
+    return NUMBER_MALFORMED;
+}
+
+static uint64_t read_runs(const uint8_t *bytes, size_t length, size_t *at, uint64_t count, struct sheet *sheet, uint64_t *pages) {
+    uint64_t end = 0, gap, run, fault;
+    *pages = 0;
+    for (uint64_t i = 0; i < count; i++) {
+        if ((fault = read_field(bytes, length, at, &gap))) return fault;
+        if ((fault = read_field(bytes, length, at, &run))) return fault;
+        if (gap < (i > 0) || run == 0 || end + gap + run > (uint64_t)1 << 36) return BAD_RUN;
+        sheet->rows[3 * i] = end + gap;
+        sheet->rows[3 * i + 1] = end = end + gap + run;
+        sheet->rows[3 * i + 2] = sheet->rows[3 * i] - *pages;
+        *pages += run;
+    }
+    sheet->row_numbers = 3 * count;
+    return 0;
+}
+
+static uint64_t check_sheet(const uint8_t *bytes, size_t length, uint64_t image_length, uint64_t pagefile_length,
+                            struct sheet *sheet) {
+    uint64_t edition, count, pages, fault;
+    size_t at = 0;
+    if ((fault = read_field(bytes, length, &at, &edition))) return fault;
+    if (edition != 1) return OUT_OF_LIMITS;
+    if ((fault = read_field(bytes, length, &at, &sheet->directory))) return fault;
+    if ((fault = read_field(bytes, length, &at, &count))) return fault;
+    if (count < 1 || count > MOST_RUNS) return OUT_OF_LIMITS;
+    if ((fault = read_runs(bytes, length, &at, count, sheet, &pages))) return fault;
+    if (at != length) return TRAILING_BYTES;
+    if (image_length != PAGE_BYTES * pages) return IMAGE_LENGTH_DIFFERS;
+    return pagefile_length % PAGE_BYTES ? PAGEFILE_NOT_WHOLE_PAGES : 0;
+}
+
+static struct world world_of(const struct sheet *sheet, const uint8_t *image, size_t image_length) {
+    return (struct world){sheet->rows, sheet->row_numbers, sheet->directory, image, image_length};
+}
+
+/* ---- the walk */
+
+static uint64_t word_at(const uint8_t *bytes) {
+    uint64_t word;
+    memcpy(&word, bytes, 8);
+    return word;
+}
+
+static uint64_t page_of_frame(const struct world *w, uint64_t frame) {
+    for (size_t i = 0; i < w->row_numbers; i += 3)
+        if (w->rows[i] <= frame && frame < w->rows[i + 1]) {
+            uint64_t page = frame - w->rows[i + 2];
+            return page < w->image_length / PAGE_BYTES ? page : NO_PAGE;
+        }
+    return NO_PAGE;
+}
+
+static glint_answer refused(uint64_t number, uint64_t entries) { return (glint_answer){number, 0, entries}; }
+
+static glint_answer walk(const struct world *w, uint64_t a) {
+    uint64_t high = a >> 47, frame = w->directory, entries = 0, page;
+    if (high != 0 && high != 0x1FFFF) return refused(NOT_CANONICAL, 0);
+    for (int low = 39;; low -= 9) {
+        page = page_of_frame(w, frame);
+        if (page == NO_PAGE) return refused(FRAME_IN_NO_RUN, entries);
+        uint64_t entry = word_at(w->image + page * PAGE_BYTES + (a >> low & 511) * 8);
+        entries++;
+        if (!(entry & 1)) return refused(low > 21 ? UPPER_ENTRY_NOT_VALID : REGION_NEEDED, entries);
+        if (entry >> 48 & 15) return refused(FRAME_TOO_WIDE, entries);
+        frame = entry >> 12 & 0xFFFFFFFFF;
+        if (low == 12) break;
+        if ((entry & 128) && low < 39) {
+            uint64_t small = ((uint64_t)1 << (low - 12)) - 1;
+            frame = (frame & ~small) | (a >> 12 & small);
+            break;
+        }
+    }
+    page = page_of_frame(w, frame);
+    if (page == NO_PAGE) return refused(FRAME_IN_NO_RUN, entries);
+    return (glint_answer){1, page * PAGE_BYTES + a % PAGE_BYTES, entries};
+}
+
+uint64_t c_walk_one(const uint64_t *rows, size_t rows_length, const uint8_t *image, size_t image_length,
+                    const uint8_t *pagefile, size_t pagefile_length, uint64_t directory, uint64_t address) {
+    struct world w = {rows, rows_length, directory, image, image_length};
+    (void)pagefile, (void)pagefile_length;
+    return walk(&w, address).offset;
+}
+
+uint64_t c_walk_pages(const uint64_t *rows, size_t rows_length, const uint8_t *image, size_t image_length,
+                      const uint8_t *pagefile, size_t pagefile_length, uint64_t directory, uint64_t start, uint64_t pages) {
+    struct world w = {rows, rows_length, directory, image, image_length};
+    uint64_t sum = 0;
+    (void)pagefile, (void)pagefile_length;
+    for (uint64_t i = 0; i < pages; i++) sum += walk(&w, start + PAGE_BYTES * i).offset;
+    return sum;
+}
+
+glint_answer c_resolve_checked(const uint64_t *rows, size_t rows_length, const uint8_t *image, size_t image_length,
+                               uint64_t directory, uint64_t address) {
+    struct world w = {rows, rows_length, directory, image, image_length};
+    return walk(&w, address);
+}
+
+glint_answer c_resolve(const uint8_t *sheet, size_t sheet_length, const uint8_t *image, size_t image_length,
+                       const uint8_t *pagefile, size_t pagefile_length, uint64_t address) {
+    struct sheet s;
+    uint64_t fault = check_sheet(sheet, sheet_length, image_length, pagefile_length, &s);
+    (void)pagefile;
+    if (fault) return refused(fault, 0);
+    struct world w = world_of(&s, image, image_length);
+    return walk(&w, address);
+}
+
+/* ---- bytes */
+
+/* A refused read changes no byte, so the pages are walked once before any is copied. */
+static uint64_t read_pass(const struct world *w, uint64_t address, uint64_t n, uint8_t *out, bool copying) {
+    for (uint64_t i = 0; i < n;) {
+        if (i > UINT64_MAX - address) return NOT_CANONICAL;
+        uint64_t a = address + i, m = PAGE_BYTES - a % PAGE_BYTES;
+        glint_answer found = walk(w, a);
+        if (found.number != 1) return found.number;
+        if (n - i < m) m = n - i;
+        if (copying) memcpy(out + i, w->image + found.offset, m);
+        i += m;
+    }
+    return 0;
+}
+
+glint_bytes c_read(const uint8_t *sheet, size_t sheet_length, const uint8_t *image, size_t image_length,
+                   const uint8_t *pagefile, size_t pagefile_length, uint64_t address, uint64_t n,
+                   uint8_t *out, size_t out_length) {
+    struct sheet s;
+    uint64_t fault = check_sheet(sheet, sheet_length, image_length, pagefile_length, &s);
+    (void)pagefile;
+    if (fault) return (glint_bytes){fault, 0, 0};
+    if (n > out_length) return (glint_bytes){READ_BUFFER_SHORT, 0, 0};
+    struct world w = world_of(&s, image, image_length);
+    if ((fault = read_pass(&w, address, n, out, false))) return (glint_bytes){fault, 0, 0};
+    read_pass(&w, address, n, out, true);
+    return (glint_bytes){0, n, 0};
+}
+
+/* ---- maps */
+
+static size_t put_number(uint8_t *out, size_t size, size_t at, uint64_t n) {
+    for (; n >= 128; n /= 128, at++)
+        if (at < size) out[at] = (uint8_t)(128 + n % 128);
+    if (at < size) out[at] = (uint8_t)n;
+    return at + 1;
+}
+
+static size_t put_extent(uint8_t *out, size_t size, size_t at, uint64_t code, uint64_t pages, uint64_t first) {
+    at = put_number(out, size, at, code);
+    at = put_number(out, size, at, pages);
+    return code == 1 ? put_number(out, size, at, first) : at;
+}
+
+/* Writes what fits, and hands back the length of the whole map. */
+static size_t map_pass(const struct world *w, uint64_t start, uint64_t pages, uint8_t *out, size_t size) {
+    uint64_t code = 0, length = 0, first = 0;
+    size_t at = put_number(out, size, 0, 1);
+    at = put_number(out, size, at, start >> 12 & 0xFFFFFFFFF);
+    at = put_number(out, size, at, pages);
+    for (uint64_t i = 0; i < pages; i++) {
+        glint_answer found = walk(w, start + PAGE_BYTES * i);
+        uint64_t page = found.offset / PAGE_BYTES, next = code == 1 ? first + length : 0;
+        if (length && found.number == code && page == next) {
+            length++;
+            continue;
+        }
+        if (length) at = put_extent(out, size, at, code, length, first);
+        code = found.number;
+        first = page;
+        length = 1;
+    }
+    return put_extent(out, size, at, code, length, first);
+}
+
+static bool is_allowed(uint64_t start, uint64_t pages) {
+    uint64_t half = (uint64_t)1 << 47, bytes = PAGE_BYTES * pages;
+    if (start % PAGE_BYTES || pages < 1 || pages > 1 << 20) return false;
+    if (start < -half) return start <= half && bytes <= half - start;
+    return bytes - 1 <= UINT64_MAX - start;
+}
+
+glint_written c_map(const uint8_t *sheet, size_t sheet_length, const uint8_t *image, size_t image_length,
+                    const uint8_t *pagefile, size_t pagefile_length, uint64_t start, uint64_t pages,
+                    uint8_t *out, size_t out_length) {
+    struct sheet s;
+    uint64_t fault = check_sheet(sheet, sheet_length, image_length, pagefile_length, &s);
+    (void)pagefile;
+    if (fault) return (glint_written){fault, 0};
+    if (!is_allowed(start, pages)) return (glint_written){BAD_MAP_RANGE, 0};
+    struct world w = world_of(&s, image, image_length);
+    size_t length = map_pass(&w, start, pages, out, 0);
+    if (length > out_length) return (glint_written){MAP_BUFFER_SHORT, 0};
+    map_pass(&w, start, pages, out, out_length);
+    return (glint_written){0, length};
+}
+
+/* ---- the processor block */
+
+static bool words_fit(const uint8_t *at) {
+    const uint64_t floor = 0xFFFF000000000000;
+    uint64_t own = word_at(at + 0x18);
+    if (own <= floor) return false;
+    uint64_t second = word_at(at + 0x20);
+    return second > floor && second - own == 0x180 && !(word_at(at + 0x1D0) >> 48 & 15);
+}
+
+glint_answer c_processor_block(const uint8_t *sheet, size_t sheet_length, const uint8_t *image, size_t image_length,
+                               const uint8_t *pagefile, size_t pagefile_length, uint64_t from) {
+    struct sheet s;
+    uint64_t fault = check_sheet(sheet, sheet_length, image_length, pagefile_length, &s);
+    (void)pagefile;
+    if (fault) return refused(fault, 0);
+    for (uint64_t page = from & ~(uint64_t)(PAGE_BYTES - 1); page < image_length; page += PAGE_BYTES)
+        for (uint64_t o = page < from ? (from + 7) & ~(uint64_t)7 : page; o <= page + 0xE28; o += 8) {
+            if (!words_fit(image + o)) continue;
+            struct world w = world_of(&s, image, image_length);
+            w.directory = word_at(image + o + 0x1D0) >> 12 & 0xFFFFFFFFF;
+            glint_answer found = walk(&w, word_at(image + o + 0x18));
+            if (found.number == 1 && found.offset == o) return found;
+        }
+    return refused(NO_PROCESSOR_BLOCK, 0);
+}
+
+/* ---- the process list */
+
+static uint64_t read_link(const struct world *w, uint64_t address, uint64_t *word) {
+    glint_answer found = walk(w, address);
+    if (found.number != 1) return found.number;
+    *word = word_at(w->image + found.offset);
+    return 0;
+}
+
+/* Follows the links into `nodes`: 0 and their number, or the first fault. */
+static uint64_t follow(const struct world *w, uint64_t head, uint64_t *nodes, size_t room, size_t *count) {
+    uint64_t node = head, next = 0, back = 0, fault;
+    if (head % 8) return LINK_UNALIGNED;
+    for (*count = 0;; node = next) {
+        if ((fault = read_link(w, node, &next))) return fault;
+        if (next % 8) return LINK_UNALIGNED;
+        if (next > UINT64_MAX - 8) return NOT_CANONICAL;
+        if ((fault = read_link(w, next + 8, &back))) return fault;
+        if (back != node) return BACK_LINK_DIFFERS;
+        if (next == head) return 0;
+        if (*count == MOST_NODES) return TOO_MANY_PROCESSES;
+        if (*count == room) return LIST_BUFFER_SHORT;
+        nodes[(*count)++] = next;
+    }
+}
+
+glint_written c_process_list(const uint8_t *sheet, size_t sheet_length, const uint8_t *image, size_t image_length,
+                             const uint8_t *pagefile, size_t pagefile_length, uint64_t head,
+                             uint64_t *out, size_t out_length) {
+    struct sheet s;
+    uint64_t nodes[MOST_NODES];
+    size_t count;
+    uint64_t fault = check_sheet(sheet, sheet_length, image_length, pagefile_length, &s);
+    (void)pagefile;
+    if (fault) return (glint_written){fault, 0};
+    struct world w = world_of(&s, image, image_length);
+    if ((fault = follow(&w, head, nodes, out_length, &count))) return (glint_written){fault, 0};
+    memcpy(out, nodes, count * sizeof *nodes);
+    return (glint_written){0, count};
+}

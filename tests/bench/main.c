@@ -1,0 +1,218 @@
+/* Compares the exported calls, and the walk on a parsed case, with the same calls in C and with memcpy, on the same data. */
+#include <stdio.h>
+#include <stdlib.h>
+#include <string.h>
+#include <time.h>
+
+#include "case.h"
+#include "in_c.h"
+
+enum { ADDRESSES = 1 << 16, SMALL_READS = 1 << 12, LARGE_READS = 1 << 8, SMALL = 64, LARGE = 1 << 16, LISTS = 16 };
+enum { WALK_TURNS = 15, SEARCH_TURNS = 7 };
+
+#define OUT_BYTES ((size_t)16 << 20)
+
+/* One side of the comparison. */
+struct calls {
+    __typeof__(bench_walk_pages) *walk_pages;
+    __typeof__(bench_walk_one) *walk_one;
+    __typeof__(glint_resolve) *resolve;
+    __typeof__(glint_read) *read;
+    __typeof__(glint_map) *map;
+    __typeof__(glint_processor_block) *processor_block;
+    __typeof__(glint_process_list) *process_list;
+};
+
+static const struct calls exported = {bench_walk_pages, bench_walk_one,        glint_resolve,     glint_read,
+                                      glint_map,        glint_processor_block, glint_process_list};
+static const struct calls in_c = {c_walk_pages, c_walk_one, c_resolve, c_read, c_map, c_processor_block, c_process_list};
+
+static const uint8_t no_pagefile[1];
+static uint64_t random_addresses[ADDRESSES];
+static uint64_t unexpected; /* answers of another number than the work has */
+
+#define CASE(c) (c)->sheet, (c)->sheet_length, (c)->image, (c)->image_length, no_pagefile, 0
+#define PARSED(c) (c)->rows, 3 * (c)->run_count, (c)->image, (c)->image_length
+
+/* ---- the work; each hands back a sum of its answers */
+
+static uint64_t sum_of(glint_answer answer, uint64_t number) {
+    unexpected += answer.number != number;
+    return answer.number + answer.offset + answer.entries;
+}
+
+static uint64_t walk_consecutive(const struct calls *call, const struct bench_case *c, uint8_t *out) {
+    (void)out;
+    return call->walk_pages(PARSED(c), no_pagefile, 0, 0, 0, MAPPED_PAGES);
+}
+
+static uint64_t walk_random(const struct calls *call, const struct bench_case *c, uint8_t *out) {
+    uint64_t sum = 0;
+    (void)out;
+    for (int i = 0; i < ADDRESSES; i++) sum += call->walk_one(PARSED(c), no_pagefile, 0, 0, random_addresses[i]);
+    return sum;
+}
+
+static uint64_t resolve_consecutive(const struct calls *call, const struct bench_case *c, uint8_t *out) {
+    uint64_t sum = 0;
+    (void)out;
+    for (uint64_t i = 0; i < ADDRESSES; i++) sum += sum_of(call->resolve(CASE(c), PAGE_BYTES * i), 1);
+    return sum;
+}
+
+static uint64_t resolve_random(const struct calls *call, const struct bench_case *c, uint8_t *out) {
+    uint64_t sum = 0;
+    (void)out;
+    for (int i = 0; i < ADDRESSES; i++) sum += sum_of(call->resolve(CASE(c), random_addresses[i]), 1);
+    return sum;
+}
+
+static uint64_t resolve_checked(const struct bench_case *c, uint8_t *out) {
+    uint64_t sum = 0;
+    (void)out;
+    for (int i = 0; i < ADDRESSES; i++) sum += sum_of(c_resolve_checked(PARSED(c), 0, random_addresses[i]), 1);
+    return sum;
+}
+
+static uint64_t read_random(const struct calls *call, const struct bench_case *c, uint8_t *out, int reads, uint64_t n) {
+    uint64_t sum = 0;
+    for (int i = 0; i < reads; i++) {
+        glint_bytes bytes = call->read(CASE(c), random_addresses[i] / 2, n, out, OUT_BYTES);
+        unexpected += bytes.number != 0;
+        sum += bytes.length + out[0] + out[n - 1];
+    }
+    return sum;
+}
+
+static uint64_t read_small(const struct calls *call, const struct bench_case *c, uint8_t *out) {
+    return read_random(call, c, out, SMALL_READS, SMALL);
+}
+
+static uint64_t read_large(const struct calls *call, const struct bench_case *c, uint8_t *out) {
+    return read_random(call, c, out, LARGE_READS, LARGE);
+}
+
+static uint64_t map_all(const struct calls *call, const struct bench_case *c, uint8_t *out) {
+    glint_written map = call->map(CASE(c), 0, MAPPED_PAGES, out, OUT_BYTES);
+    unexpected += map.number != 0;
+    return map.length;
+}
+
+static uint64_t list_nodes(const struct calls *call, const struct bench_case *c, uint8_t *out) {
+    uint64_t sum = 0;
+    for (int i = 0; i < LISTS; i++) {
+        glint_written list = call->process_list(CASE(c), c->list_head, (uint64_t *)(void *)out, LIST_NODES);
+        unexpected += list.number != 0 || list.length != LIST_NODES;
+        sum += list.length;
+    }
+    return sum;
+}
+
+static uint64_t search_block(const struct calls *call, const struct bench_case *c, uint8_t *out) {
+    (void)out;
+    return sum_of(call->processor_block(CASE(c), 0), 55);
+}
+
+/* ---- memcpy of the bytes that the work has to go through */
+
+static void copy_large(const struct bench_case *c, uint8_t *out) {
+    for (int i = 0; i < LARGE_READS; i++) {
+        memcpy(out, c->image + random_addresses[i] % (c->image_length - LARGE), LARGE);
+        __asm__ volatile("" ::: "memory");
+    }
+}
+
+static void copy_image(const struct bench_case *c, uint8_t *out) {
+    memcpy(out, c->image, c->image_length);
+    __asm__ volatile("" ::: "memory");
+}
+
+/* ---- measuring */
+
+struct work {
+    const char *name;
+    double units; /* what the name's "a .." counts */
+    uint64_t (*run)(const struct calls *call, const struct bench_case *c, uint8_t *out);
+    void (*copy)(const struct bench_case *c, uint8_t *out);      /* NULL: memcpy is not the limit */
+    uint64_t (*other)(const struct bench_case *c, uint8_t *out); /* the C side, where it is not `run` */
+};
+
+static const struct work walk_works[] = {
+    {"walk on a parsed case, consecutive, one call, a page", MAPPED_PAGES, walk_consecutive, NULL, NULL},
+    {"walk on a parsed case, random, a call", ADDRESSES, walk_random, NULL, NULL},
+    {"address, consecutive pages, a call", ADDRESSES, resolve_consecutive, NULL, NULL},
+    {"address, random, a call", ADDRESSES, resolve_random, NULL, NULL},
+    {"address, random, a call; C does not check the sheet", ADDRESSES, resolve_random, NULL, resolve_checked},
+    {"read of 64 bytes, random, a call", SMALL_READS, read_small, NULL, NULL},
+    {"read of 64 KiB, random, a call", LARGE_READS, read_large, copy_large, NULL},
+    {"map of 2^20 pages, a page", MAPPED_PAGES, map_all, NULL, NULL},
+    {"process list of 4,096 nodes, a node", (double)LISTS * LIST_NODES, list_nodes, NULL, NULL},
+};
+
+static const struct work search_works[] = {
+    {"processor block, 256 MiB of zeros, a page", SEARCH_IMAGE_BYTES / PAGE_BYTES, search_block, copy_image, NULL},
+    {"processor block, 256 MiB with kernel addresses, a page", SEARCH_IMAGE_BYTES / PAGE_BYTES, search_block, copy_image, NULL},
+};
+
+static double seconds(void) {
+    struct timespec t;
+    clock_gettime(CLOCK_MONOTONIC, &t);
+    return (double)t.tv_sec + (double)t.tv_nsec * 1e-9;
+}
+
+static uint8_t *outs[3]; /* of the exports, of C, of memcpy */
+
+/* The time and the sum of one side: 0 the exports, 1 C, 2 memcpy. */
+static double time_side(const struct work *work, const struct bench_case *c, int side, uint64_t *sum) {
+    double start = seconds();
+    if (side == 0) *sum = work->run(&exported, c, outs[0]);
+    if (side == 1) *sum = work->other ? work->other(c, outs[1]) : work->run(&in_c, c, outs[1]);
+    if (side == 2) work->copy(c, outs[2]);
+    return seconds() - start;
+}
+
+/* Prints a row: the best of some turns, in which the sides take turns. */
+static void measure(const struct work *work, const struct bench_case *c, int turns) {
+    double best[3] = {1e9, 1e9, 1e9};
+    uint64_t sums[3] = {0, 0, 0};
+    int sides = work->copy ? 3 : 2;
+    unexpected = 0;
+    for (int turn = 0; turn < turns; turn++)
+        for (int side = 0; side < sides; side++) {
+            double time = time_side(work, c, side, &sums[side]);
+            if (time < best[side]) best[side] = time;
+        }
+    if (unexpected || sums[0] != sums[1] || memcmp(outs[0], outs[1], OUT_BYTES)) {
+        printf("%s: the answers are not as expected, or differ\n", work->name);
+        exit(1);
+    }
+    double ns = 1e9 / work->units;
+    printf("%-56s %4zu %10.1f %10.1f %7.2f", work->name, c->run_count, best[0] * ns, best[1] * ns, best[0] / best[1]);
+    if (work->copy) printf(" %10.1f %11.2f", best[2] * ns, best[0] / best[2]);
+    printf("\n");
+    fflush(stdout);
+}
+
+int main(void) {
+    struct bench_case c = {0};
+    uint8_t *image = aligned_alloc(PAGE_BYTES, SEARCH_IMAGE_BYTES);
+    for (int side = 0; side < 3; side++) {
+        size_t bytes = side == 2 ? SEARCH_IMAGE_BYTES : OUT_BYTES;
+        outs[side] = aligned_alloc(PAGE_BYTES, bytes);
+        if (!image || !outs[side]) return 1;
+        memset(outs[side], 0, bytes);
+    }
+    printf("%-56s %4s %10s %10s %7s %10s %11s\n", "", "runs", "ours, ns", "C, ns", "ours/C", "memcpy, ns", "ours/memcpy");
+    for (size_t runs = 1; runs <= MOST_RUNS; runs *= MOST_RUNS) {
+        make_walk_case(&c, image, runs);
+        for (int i = 0; i < ADDRESSES; i++) random_addresses[i] = next_random() % ((uint64_t)MAPPED_PAGES * PAGE_BYTES);
+        for (size_t i = 0; i < sizeof walk_works / sizeof *walk_works; i++) measure(&walk_works[i], &c, WALK_TURNS);
+    }
+    for (size_t i = 0; i < sizeof search_works / sizeof *search_works; i++) {
+        make_search_case(&c, image, i == 0);
+        measure(&search_works[i], &c, SEARCH_TURNS);
+    }
+    free(image);
+    for (int side = 0; side < 3; side++) free(outs[side]);
+    return 0;
+}

@@ -1,0 +1,27 @@
+//! The numbers that several calls hand back, in lists from which each test makes its own.
+
+// Each test uses its own part.
+#![allow(dead_code)]
+
+/// Every code that an extent can have: those of places, then refusals.
+pub const EXTENT_CODES: &[u64] = &[1, 2, 3, 21, 22, 23, 24, 25, 26, 27, 28, 29];
+
+/// Where an address leads: the image, the pagefile, a page of zeros.
+pub const PLACES: &[u64] = &[1, 2, 3];
+
+/// The codes that are refusals.
+pub const PAGE_REFUSALS: &[u64] = match EXTENT_CODES {
+    [1, 2, 3, refusals @ ..] => refusals,
+    _ => panic!("places come first"),
+};
+
+/// Refusals of a case as a whole.
+pub const CASE_REFUSALS: &[u64] = &[10, 11, 12, 13, 14, 15, 16];
+
+/// The refusal of an address that no page can have.
+pub const NOT_CANONICAL: u64 = 20;
+
+/// Every number that an address can have.
+pub fn address_numbers() -> Vec<u64> {
+    [PLACES, CASE_REFUSALS, &[NOT_CANONICAL], PAGE_REFUSALS].concat()
+}

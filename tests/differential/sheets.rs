@@ -1,0 +1,278 @@
+//! Compares a program's answers for case sheets with those of the second reader.
+
+#[path = "../common"]
+mod common {
+    pub mod codes;
+    pub mod groups;
+    pub mod print;
+    pub mod random;
+    pub mod tally;
+}
+// Each test uses its own part of the second reader.
+#[allow(dead_code)]
+#[path = "../second"]
+mod second {
+    pub mod number;
+    pub mod sheet;
+    pub mod slip;
+}
+mod sheet_cases;
+
+use common::codes::CASE_REFUSALS;
+use common::print::{hex, with_commas};
+use common::tally::{print_table, Tally};
+use second::number::Refusal;
+use second::sheet::{check_sheet, Case};
+use second::slip::{self, Slip, SHEET_SLIPS};
+use sheet_cases::{each_record, Record};
+use std::io::{self, BufRead, BufReader, BufWriter, Write};
+use std::process::{ChildStdin, Command, ExitCode, ExitStatus, Stdio};
+use std::thread;
+
+const USAGE: &str = "usage: sheets PROGRAM [--slip NAME] [--longer] [--list-slips]";
+
+/// Every answer that a sheet can have.
+fn answers() -> Vec<u64> {
+    [&[0], CASE_REFUSALS].concat()
+}
+
+/// How many differing cases are printed.
+const MOST_SHOWN: usize = 5;
+
+/// How much of a differing line is printed.
+const MOST_LINE_BYTES: usize = 1000;
+
+/// Answers that the paper itself states: sheet, image length, line.
+const STATED: [(&[u8], u64, &str); 2] = [
+    (
+        &[
+            0x01, 0x87, 0x03, 0x02, 0x01, 0x9E, 0x01, 0x61, 0xF0, 0xFD, 0x0F,
+        ],
+        0x3FF8E000,
+        "0 391 2 1 158 256 261872\n",
+    ),
+    (&[0x80, 0x00], 0, "11\n"),
+];
+
+struct Arguments {
+    program: Option<String>,
+    slip: Slip,
+    longer: bool,
+    list_slips: bool,
+}
+
+fn main() -> ExitCode {
+    let arguments = match read_arguments(std::env::args().skip(1)) {
+        Ok(arguments) => arguments,
+        Err(why) => return wrong_use(&why),
+    };
+    if arguments.list_slips {
+        SHEET_SLIPS.iter().for_each(|slip| println!("{:?}", slip));
+        return ExitCode::SUCCESS;
+    }
+    let program = match &arguments.program {
+        Some(program) => program,
+        None => return wrong_use("no program given"),
+    };
+    match run_program(program, arguments.slip, arguments.longer) {
+        Ok((comparison, status)) if report(&comparison, status) => ExitCode::SUCCESS,
+        Ok(_) => ExitCode::from(1),
+        Err(error) => wrong_use(&format!("{}: {}", program, error)),
+    }
+}
+
+fn wrong_use(why: &str) -> ExitCode {
+    eprintln!("sheets: {}\n{}", why, USAGE);
+    ExitCode::from(2)
+}
+
+fn read_arguments(mut words: impl Iterator<Item = String>) -> Result<Arguments, String> {
+    let mut arguments = Arguments {
+        program: None,
+        slip: Slip::None,
+        longer: false,
+        list_slips: false,
+    };
+    while let Some(word) = words.next() {
+        match word.as_str() {
+            "--longer" => arguments.longer = true,
+            "--list-slips" => arguments.list_slips = true,
+            "--slip" => {
+                let name = words.next().ok_or("--slip needs a name")?;
+                arguments.slip =
+                    slip::named(SHEET_SLIPS, &name).ok_or(format!("no slip {}", name))?;
+            }
+            _ if word.starts_with("--") || arguments.program.is_some() => {
+                return Err(format!("unexpected {}", word));
+            }
+            _ => arguments.program = Some(word),
+        }
+    }
+    Ok(arguments)
+}
+
+/// What came of comparing all lines.
+struct Comparison {
+    cases: u64,
+    answers: Tally,
+    differing: u64,
+    shown: Vec<String>,
+    missing: u64,
+    extra: u64,
+}
+
+fn run_program(program: &str, slip: Slip, longer: bool) -> io::Result<(Comparison, ExitStatus)> {
+    let mut child = Command::new(program)
+        .stdin(Stdio::piped())
+        .stdout(Stdio::piped())
+        .spawn()?;
+    let input = child.stdin.take().expect("standard input is a pipe");
+    let output = child.stdout.take().expect("standard output is a pipe");
+    let writer = thread::spawn(move || write_records(input, longer));
+    let comparison = compare_lines(BufReader::new(output), slip, longer)?;
+    writer.join().expect("the writer does not panic");
+    Ok((comparison, child.wait()?))
+}
+
+/// Writes until the program no longer reads.
+fn write_records(input: ChildStdin, longer: bool) {
+    let mut input = BufWriter::with_capacity(1 << 16, input);
+    let mut outcome = Ok(());
+    each_record(longer, &mut |record| {
+        if outcome.is_ok() {
+            outcome = write_record(&mut input, record);
+        }
+    });
+    // A program that ended early is noticed by its missing lines.
+    let _ = outcome.and_then(|()| input.flush());
+}
+
+fn write_record(input: &mut impl Write, record: &Record) -> io::Result<()> {
+    input.write_all(&record.image_length.to_le_bytes())?;
+    input.write_all(&record.pagefile_length.to_le_bytes())?;
+    input.write_all(&(record.sheet.len() as u64).to_le_bytes())?;
+    input.write_all(record.sheet)
+}
+
+/// Makes the records a second time and compares their answers with the program's lines.
+fn compare_lines(mut output: impl BufRead, slip: Slip, longer: bool) -> io::Result<Comparison> {
+    let mut comparison = Comparison {
+        cases: 0,
+        answers: Tally::new("answer", answers()),
+        differing: 0,
+        shown: Vec::new(),
+        missing: 0,
+        extra: 0,
+    };
+    let mut outcome = Ok(());
+    let mut line = Vec::new();
+    each_record(longer, &mut |record| {
+        if outcome.is_ok() {
+            line.clear();
+            outcome = output.read_until(b'\n', &mut line).map(|_| ());
+            compare_line(&mut comparison, record, &line, slip);
+        }
+    });
+    outcome?;
+    line.clear();
+    while output.read_until(b'\n', &mut line)? > 0 {
+        comparison.extra += 1;
+        line.clear();
+    }
+    Ok(comparison)
+}
+
+fn compare_line(comparison: &mut Comparison, record: &Record, line: &[u8], slip: Slip) {
+    let answer = check_sheet(
+        record.sheet,
+        record.image_length,
+        record.pagefile_length,
+        slip,
+    );
+    let number = answer.as_ref().err().copied().unwrap_or(0);
+    comparison.answers.count(u64::from(number));
+    comparison.cases += 1;
+    if line.is_empty() {
+        comparison.missing += 1;
+        return;
+    }
+    let wanted = line_of(&answer);
+    if line != wanted.as_bytes() {
+        comparison.differing += 1;
+        if comparison.shown.len() < MOST_SHOWN {
+            comparison.shown.push(differing_case(record, line, &wanted));
+        }
+    }
+}
+
+fn line_of(answer: &Result<Case, Refusal>) -> String {
+    match answer {
+        Err(refusal) => format!("{}\n", refusal),
+        Ok(case) => {
+            let mut line = format!("0 {} {}", case.directory_page, case.runs.len());
+            for run in &case.runs {
+                line += &format!(" {} {}", run.first_frame, run.pages);
+            }
+            line + "\n"
+        }
+    }
+}
+
+fn differing_case(record: &Record, line: &[u8], wanted: &str) -> String {
+    let line = &line[..line.len().min(MOST_LINE_BYTES)];
+    format!(
+        "sheet [{}] image length 0x{:X} pagefile length 0x{:X}\n{}\n{}",
+        hex(record.sheet),
+        record.image_length,
+        record.pagefile_length,
+        format_args!("  program:       \"{}\"", line.escape_ascii()),
+        format_args!("  second reader: \"{}\"", wanted.escape_default()),
+    )
+}
+
+/// Prints the table and every reason to fail; true if there is none.
+fn report(comparison: &Comparison, status: ExitStatus) -> bool {
+    print_table(&[&comparison.answers]);
+    comparison
+        .shown
+        .iter()
+        .for_each(|case| println!("{}", case));
+    let reasons = reasons_to_fail(comparison, status);
+    reasons.iter().for_each(|reason| println!("{}", reason));
+    if reasons.is_empty() {
+        println!("sheets: {} cases agree", with_commas(comparison.cases));
+    }
+    reasons.is_empty()
+}
+
+fn reasons_to_fail(comparison: &Comparison, status: ExitStatus) -> Vec<String> {
+    let mut reasons = Vec::new();
+    if comparison.differing > 0 {
+        reasons.push(format!("differs: {}", comparison.differing));
+    }
+    if comparison.missing > 0 {
+        reasons.push(format!(
+            "too few lines: {} of {} missing",
+            with_commas(comparison.missing),
+            with_commas(comparison.cases)
+        ));
+    }
+    if comparison.extra > 0 {
+        reasons.push(format!("too many lines: {} more", comparison.extra));
+    }
+    if !status.success() {
+        reasons.push(format!("the program ended with {}", status));
+    }
+    reasons.extend(comparison.answers.reasons(&answers()));
+    for (sheet, image_length, line) in STATED {
+        let ours = line_of(&check_sheet(sheet, image_length, 0, Slip::None));
+        if ours != line {
+            reasons.push(format!(
+                "second reader: {} instead of {}",
+                ours.trim_end(),
+                line.trim_end()
+            ));
+        }
+    }
+    reasons
+}

@@ -1,0 +1,290 @@
+//! Compares the exported address, page and read calls with those of the second walk.
+
+#[path = "../common"]
+mod common {
+    pub mod arguments;
+    pub mod case_files;
+    pub mod codes;
+    pub mod groups;
+    pub mod memory;
+    pub mod print;
+    pub mod random;
+    pub mod tally;
+}
+mod exports;
+// Each test uses its own part of the second reader.
+#[allow(dead_code)]
+#[path = "../second"]
+mod second {
+    pub mod bytes;
+    pub mod codes;
+    pub mod number;
+    pub mod sheet;
+    pub mod slip;
+    pub mod walk;
+}
+mod walk_cases;
+
+use common::arguments;
+use common::case_files::CaseFiles;
+use common::codes::{address_numbers, CASE_REFUSALS, NOT_CANONICAL, PAGE_REFUSALS, PLACES};
+use common::print::{hex, with_commas};
+use common::tally::{print_table, Tally, LEAST_TIMES};
+use second::bytes;
+use second::slip::{Slip, WALK_SLIPS};
+use second::walk::{self, word_at, Files, Place};
+use std::process::ExitCode;
+use walk_cases::{each_question, Question, Stated, MOST_ROOM, STATED};
+
+/// Every number that a read can hand back.
+fn read_numbers() -> Vec<u64> {
+    [&[0], CASE_REFUSALS, &[NOT_CANONICAL], PAGE_REFUSALS, &[45]].concat()
+}
+
+/// How many prototype entries a chain can have.
+const MOST_PROTOTYPES: usize = 3;
+
+/// The most entries that an address can take.
+const MOST_ENTRIES: u64 = 19;
+
+/// How many differing cases are printed.
+const MOST_SHOWN: usize = 5;
+
+/// Bytes behind the lent buffer, which no call may touch.
+const GUARD: usize = 64;
+
+fn main() -> ExitCode {
+    arguments::run("walks", 200_000, WALK_SLIPS, |arguments| {
+        let mut comparison = Comparison::new(arguments.slip);
+        each_question(arguments.seed, arguments.cases, &mut |files, question| {
+            comparison.compare(files, question)
+        });
+        report(&comparison)
+    })
+}
+
+/// The three numbers of an answer, as the exports and as the second walk give them.
+type Pair = [[u64; 3]; 2];
+
+/// What came of comparing all cases.
+struct Comparison {
+    slip: Slip,
+    cases: u64,
+    resolved: Tally,
+    read: Tally,
+    /// By the prototype entries followed: all answers of accepted cases, and those found.
+    chains: [[u64; 2]; MOST_PROTOTYPES + 1],
+    most_entries: u64,
+    differing: u64,
+    shown: Vec<String>,
+    pattern: Vec<u8>,
+    buffers: [Vec<u8>; 2],
+}
+
+impl Comparison {
+    fn new(slip: Slip) -> Self {
+        Comparison {
+            slip,
+            cases: 0,
+            resolved: Tally::new("resolve", address_numbers()),
+            read: Tally::new("read", read_numbers()),
+            chains: [[0; 2]; MOST_PROTOTYPES + 1],
+            most_entries: 0,
+            differing: 0,
+            shown: Vec::new(),
+            pattern: (0..MOST_ROOM + GUARD).map(pattern_byte).collect(),
+            buffers: [Vec::new(), Vec::new()],
+        }
+    }
+
+    fn compare(&mut self, files: &CaseFiles, question: &Question) {
+        self.cases += 1;
+        let resolved = self.resolve(files.lent(), question.address);
+        let parts = pages(files.lent(), question.address, self.slip);
+        let read = self.read(files.lent(), question);
+        let same_bytes = self.buffers[0] == self.buffers[1];
+        let same = same_bytes
+            && [resolved, parts, read]
+                .iter()
+                .all(|pair| pair[0] == pair[1]);
+        if same {
+            return;
+        }
+        self.differing += 1;
+        if self.shown.len() < MOST_SHOWN {
+            let mut text = case_text(self.cases, files, question);
+            text += &entries_text(files.lent(), question.address, self.slip);
+            text += &pair_text("resolve", "number, offset, entries", resolved);
+            text += &pair_text("page", "file, offset, length", parts);
+            text += &pair_text("read", "number, length, zeros", read);
+            if !same_bytes {
+                text += "\n  the buffers differ";
+            }
+            self.shown.push(text);
+        }
+    }
+
+    fn resolve(&mut self, files: Files, address: u64) -> Pair {
+        let theirs = exports::resolve(files.sheet, files.image, files.pagefile, address);
+        let ours = walk::resolve(files, address, self.slip);
+        self.resolved.count(ours.number);
+        self.most_entries = self.most_entries.max(ours.entries);
+        let chain = ours.prototypes as usize;
+        if !CASE_REFUSALS.contains(&ours.number) && chain <= MOST_PROTOTYPES {
+            self.chains[chain][0] += 1;
+            self.chains[chain][1] += u64::from(PLACES.contains(&ours.number));
+        }
+        [
+            [theirs.number, theirs.offset, theirs.entries],
+            [ours.number, ours.offset, ours.entries],
+        ]
+    }
+
+    /// Reads into two buffers with the same bytes in and behind them.
+    fn read(&mut self, files: Files, question: &Question) -> Pair {
+        let Question { start, n, room, .. } = *question;
+        for buffer in &mut self.buffers {
+            buffer.clear();
+            buffer.extend_from_slice(&self.pattern[..room + GUARD]);
+        }
+        let [their_buffer, our_buffer] = &mut self.buffers;
+        let theirs = exports::read(
+            files.sheet,
+            files.image,
+            files.pagefile,
+            start,
+            n,
+            &mut their_buffer[..room],
+        );
+        let ours = bytes::read(files, start, n, &mut our_buffer[..room], self.slip);
+        self.read.count(ours.number);
+        [
+            [theirs.number, theirs.length, theirs.zeros],
+            [ours.number, ours.length, ours.zeros],
+        ]
+    }
+}
+
+fn pages(files: Files, address: u64, slip: Slip) -> Pair {
+    let theirs = exports::page(files.sheet, files.image, files.pagefile, address);
+    let ours = bytes::page(files, address, slip);
+    [
+        [theirs.file, theirs.offset, theirs.length],
+        [ours.file, ours.offset, ours.length],
+    ]
+}
+
+/// Never 0, so that a byte left alone differs from a byte of a page of zeros.
+fn pattern_byte(place: usize) -> u8 {
+    (place % 251) as u8 + 1
+}
+
+fn case_text(case: u64, files: &CaseFiles, question: &Question) -> String {
+    format!(
+        "case {}: sheet [{}] image length 0x{:X} pagefile length 0x{:X}{}{}",
+        case,
+        hex(&files.sheet),
+        files.image.len(),
+        files.pagefile.len(),
+        format_args!("\n  address 0x{:016X}", question.address),
+        format_args!(
+            ", read of {} bytes at 0x{:016X} into {}",
+            question.n, question.start, question.room
+        ),
+    )
+}
+
+fn pair_text(call: &str, fields: &str, pair: Pair) -> String {
+    if pair[0] == pair[1] {
+        return String::new();
+    }
+    let [theirs, ours] = pair.map(answer_text);
+    format!(
+        "\n  {} ({}): exports {}, second walk {}",
+        call, fields, theirs, ours
+    )
+}
+
+fn answer_text([first, second, third]: [u64; 3]) -> String {
+    format!("{} 0x{:X} {}", first, second, third)
+}
+
+/// The entries that the second walk read, each with its place.
+fn entries_text(files: Files, address: u64, slip: Slip) -> String {
+    let mut text = String::new();
+    for place in walk::resolve(files, address, slip).consulted {
+        let (file, offset, entry) = match place {
+            Place::Image(offset) => ("image", offset, word_at(files.image, offset)),
+            Place::Pagefile(offset) => ("pagefile", offset, word_at(files.pagefile, offset)),
+            Place::Zeros => ("zeros", 0, 0),
+        };
+        text += &format!("\n  {} 0x{:X}: 0x{:016X}", file, offset, entry);
+    }
+    text
+}
+
+/// Prints the tables and every reason to fail; true if there is none.
+fn report(comparison: &Comparison) -> bool {
+    print_table(&[&comparison.resolved, &comparison.read]);
+    println!("{:>6} {:>12} {:>12}", "depth", "answers", "found");
+    for (chain, [answers, found]) in comparison.chains.iter().enumerate() {
+        let (answers, found) = (with_commas(*answers), with_commas(*found));
+        println!("{:>6} {:>12} {:>12}", chain, answers, found);
+    }
+    println!("most entries read: {}", comparison.most_entries);
+    comparison
+        .shown
+        .iter()
+        .for_each(|text| println!("{}", text));
+    let reasons = reasons_to_fail(comparison);
+    reasons.iter().for_each(|reason| println!("{}", reason));
+    if reasons.is_empty() {
+        println!("walks: {} cases agree", with_commas(comparison.cases));
+    }
+    reasons.is_empty()
+}
+
+fn reasons_to_fail(comparison: &Comparison) -> Vec<String> {
+    let mut reasons = Vec::new();
+    if comparison.differing > 0 {
+        reasons.push(format!("differs: {}", comparison.differing));
+    }
+    reasons.extend(comparison.resolved.reasons(&address_numbers()));
+    reasons.extend(comparison.read.reasons(&read_numbers()));
+    for (chain, [_, found]) in comparison.chains.iter().enumerate() {
+        if *found < LEAST_TIMES {
+            reasons.push(format!(
+                "found at depth {} came up {} times, wanted {}",
+                chain, found, LEAST_TIMES
+            ));
+        }
+    }
+    if comparison.most_entries != MOST_ENTRIES {
+        reasons.push(format!("most entries read: wanted {}", MOST_ENTRIES));
+    }
+    STATED
+        .iter()
+        .for_each(|stated| judge_stated(stated, &mut reasons));
+    reasons
+}
+
+/// Both walks against an answer that a paper states.
+fn judge_stated(stated: &Stated, reasons: &mut Vec<String>) {
+    let files = stated.files();
+    let files = files.lent();
+    let theirs = exports::resolve(files.sheet, files.image, files.pagefile, stated.address);
+    let ours = walk::resolve(files, stated.address, Slip::None);
+    let wanted = stated.answer();
+    for (whose, got) in [
+        ("exports", [theirs.number, theirs.offset, theirs.entries]),
+        ("second walk", [ours.number, ours.offset, ours.entries]),
+    ] {
+        if got != wanted {
+            let (got, wanted) = (answer_text(got), answer_text(wanted));
+            reasons.push(format!(
+                "{}: {} {} instead of {}",
+                stated.what, whose, got, wanted
+            ));
+        }
+    }
+}

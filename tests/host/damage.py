@@ -1,0 +1,130 @@
+"""Damaged cases and maps, run through the program and compared with what the shared library answers for them."""
+import json
+import random
+
+from cases import PAGE, SHIPPED, block_case, list_case, make_case
+from expected import REFUSALS
+from library import Library
+from program import run
+
+MAP_PAGES = 16
+SANITIZER_WORDS = (b"Sanitizer", b"runtime error")
+
+
+class Fault(Exception):
+    """The program ended, or answered, otherwise than it must."""
+
+
+def damaged(content, chance):
+    """Some bytes changed, or the end cut or lengthened."""
+    content = bytearray(content)
+    for _ in range(chance.choice((0, 1, 1, 2, 8, 64))):
+        if content:
+            content[chance.randrange(len(content))] = chance.choice((0, 1, 0x7F, 0x80, 0xFF, chance.randrange(256)))
+    how = chance.randrange(12)
+    if how == 0:
+        del content[chance.randrange(len(content) + 1) :]
+    elif how == 1:
+        content += chance.randbytes(chance.choice((1, 8, PAGE)))
+    return bytes(content)
+
+
+def place(shown):
+    """Number, offset and, where there are any, entries read of an answer."""
+    return tuple([shown["number"], int(shown["offset"], 16)] + [shown[name] for name in ("entries",) if name in shown])
+
+
+def shown_bytes(shown):
+    return bytes.fromhex(shown.get("bytes", ""))
+
+
+class Damage:
+    """Runs one damaged case or map after the other in a directory."""
+
+    def __init__(self, directory, seed):
+        self.directory, self.chance, self.library = directory, random.Random(seed), Library()
+        self.paths = [directory / name for name in ("sheet", "image", "pagefile")]
+        self.addresses = [address for address, _, _ in make_case.ANSWERS]
+        list_files, (self.list_head, *_) = list_case(directory, 5)
+        self.cases = [[path.read_bytes() for path in list_files.words()]]
+        self.cases.append([path.read_bytes() for path in block_case(directory)[0].words()])
+        self.shipped = [(SHIPPED / name).read_bytes() for name in ("sheet", "image", "pagefile")]
+        self.cases.append(self.shipped)
+
+    def address(self):
+        near = self.chance.choice(self.addresses) + self.chance.randrange(-9, 9)
+        return self.chance.choice((near, near, self.list_head, self.chance.getrandbits(64))) % 2**64
+
+    def run_json(self, *words):
+        done = run(words[0], "--json", *words[1:])
+        if done.returncode not in (0, 1) or any(word in done.stderr for word in SANITIZER_WORDS):
+            raise Fault(f"{words}: exit status {done.returncode}\n{done.stderr.decode(errors='replace')}")
+        answers = json.loads(done.stdout)["answers"]
+        if done.returncode != any(one["number"] in REFUSALS for one in answers):
+            raise Fault(f"{words}: exit status {done.returncode} for {answers}")
+        return answers
+
+    def expect(self, words, shown, answered):
+        if shown != answered:
+            raise Fault(f"{words}: shown {shown}, the library answers {answered}")
+
+    def step(self):
+        """One damaged case, or one damaged map."""
+        case = list(self.chance.choice(self.cases))
+        for place_in_case in range(3):
+            if self.chance.randrange(3) == 0:
+                case[place_in_case] = damaged(case[place_in_case], self.chance)
+        for path, content in zip(self.paths, case):
+            path.write_bytes(content)
+        verbs = (self.resolve, self.page, self.read, self.map, self.lookup, self.processor_block, self.list)
+        self.chance.choice(verbs)(case)
+
+    def resolve(self, case):
+        addresses = [self.address() for _ in range(8)]
+        shown = [place(one) for one in self.run_json("resolve", *self.paths, *addresses)]
+        self.expect(("resolve", addresses), shown, [self.library.resolve(case, address) for address in addresses])
+
+    def page(self, case):
+        address = self.address()
+        shown = self.run_json("page", *self.paths, address)[0]
+        number = self.library.resolve(case, address)[0]
+        file, offset, length = self.library.page(case, address)
+        content = case[file][offset : offset + length] if file else bytes(PAGE if number == 3 else 0)
+        self.expect(("page", address), (shown["number"], shown_bytes(shown)), (number, content))
+
+    def read(self, case):
+        address, n = self.address(), self.chance.choice((0, 1, 8, 100, PAGE, 3 * PAGE))
+        shown = self.run_json("read", *self.paths, address, n)[0]
+        zeros = int(any(one["number"] == 3 for one in shown.get("pages", [])))
+        answered = self.library.read(case, address, n)
+        self.expect(("read", address, n), (shown["number"], shown_bytes(shown), zeros), answered)
+        if "refused_address" in shown:
+            refused = int(shown["refused_address"], 16)
+            self.expect(("read", address, n), self.library.resolve(case, refused)[0], shown["number"])
+            if refused > address:
+                self.expect(("read", address, n), self.library.read(case, address, refused - address)[0], 0)
+
+    def map(self, case):
+        start = self.address() // PAGE * PAGE
+        shown = self.run_json("map", *self.paths, start, MAP_PAGES)[0]
+        self.expect(("map", start), (shown["number"], shown_bytes(shown)), self.library.map(case, start, MAP_PAGES))
+
+    def lookup(self, _case):
+        start = self.address() // PAGE * PAGE
+        content = damaged(self.library.map(self.shipped, start, MAP_PAGES)[1], self.chance)
+        path = self.directory / "map"
+        path.write_bytes(content)
+        addresses = [(start + self.chance.randrange((MAP_PAGES + 2) * PAGE)) % 2**64 for _ in range(8)]
+        shown = [place(one) for one in self.run_json("lookup", path, *addresses)]
+        self.expect(("lookup", addresses), shown, [self.library.lookup(content, address) for address in addresses])
+
+    def processor_block(self, case):
+        start = self.chance.choice((0, self.chance.randrange(2 * PAGE), self.chance.getrandbits(64)))
+        shown = place(self.run_json("processor-block", *self.paths, start)[0])
+        self.expect(("processor-block", start), shown, self.library.processor_block(case, start))
+
+    def list(self, case):
+        head = self.chance.choice((self.list_head, self.list_head + 16, self.address()))
+        shown = self.run_json("list", *self.paths, head)[0]
+        nodes = [int(node, 16) for node in shown.get("nodes", [])]
+        self.expect(("list", head), (shown["number"], nodes), self.library.process_list(case, head))

@@ -1,0 +1,57 @@
+"""What the program is to print."""
+import re
+
+from cases import make_case
+from program import ROOT
+
+PLACES = {1: "found in the image", 2: "found in the pagefile", 3: "page of zeros, by the tables"}
+
+
+def refusals():
+    """Number and words of README's table."""
+    table = (ROOT / "README.md").read_text().split("\n## Refusals\n")[1]
+    return {int(number): words for number, words in re.findall(r"^\| (\d+) \| (.*) \|$", table, re.M)}
+
+
+REFUSALS = refusals()
+WORDS = {0: "done", **PLACES, **REFUSALS}
+
+# The map of 16 pages from 0xB34000 on in the shipped case.
+SHIPPED_MAP = bytes.fromhex("01b416101b010201011b0101010503011601010105170118011a011d011c010101050201010302")
+
+
+def place(address, number, offset=0, entries=None):
+    """The line for a place or a refusal."""
+    line = f"0x{address:016X}  {number:2} " + (PLACES[number] if number in PLACES else "refused: " + REFUSALS[number])
+    line += f", offset 0x{offset:X}" if number in (1, 2) else ""
+    if entries is not None:
+        line += f", {entries} {'entry' if entries == 1 else 'entries'} read"
+    return line
+
+
+def first_at(address):
+    """Behind the line of a refused read: the first address that is refused."""
+    return f", first at 0x{address:016X}"
+
+
+def done(asked, rest):
+    return f"0x{asked:016X}   0 done, {rest}"
+
+
+def dump(address, content):
+    """The lines of a hex dump."""
+    lines = []
+    for at in range(0, len(content), 16):
+        row = content[at : at + 16]
+        digits = [f"{byte:02X}" for byte in row] + ["  "] * (16 - len(row))
+        text = "".join(chr(byte) if 0x20 <= byte <= 0x7E else "." for byte in row)
+        lines.append(f"{address + at:016X}  {' '.join(digits[:8])}  {' '.join(digits[8:])}  |{text}|")
+    return lines
+
+
+def shipped_answers():
+    return [(address, *map(int, line.split())) for address, line, _ in make_case.ANSWERS]
+
+
+def shipped_lines():
+    return [place(*answer) for answer in shipped_answers()]
