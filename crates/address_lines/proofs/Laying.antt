@@ -40,12 +40,12 @@ module _ (n k : ℕ) (text : List ℕ) (few : Fewest 10 1 n k) (spelt : take k t
   pub decimal-text : take k text ≡ decimalOf n
   decimal-text = spelt ∙ fewest-digits k n few
 
-  pub field-laid : (old new : List ℕ) (at behind : ℕ) → new ≡ sets old at (take k text) → Wrote old at (fieldOf n behind) (at + k + 1) (set new (at + k) behind)
-  field-laid old new at behind e =
+  pub field-laid : (old new : List ℕ) (at last : ℕ) → new ≡ sets old at (take k text) → Wrote old at (fieldOf n last) (at + k + 1) (set new (at + k) last)
+  field-laid old new at last e =
       let long : k ≡ length (decimalOf n) = rw decimal-text at fits in
       record {
-        place = omega (arith, long, length-append (decimalOf n) (behind ∷ []));
-        bytes = rw (sets-append old at (decimalOf n) (behind ∷ []), ← long, e, decimal-text);
+        place = omega (arith, long, length-append (decimalOf n) (last ∷ []));
+        bytes = rw (sets-append old at (decimalOf n) (last ∷ []), ← long, e, decimal-text);
       }
 
 -- ---- three of them

@@ -6,7 +6,7 @@ use native.Mathlib.Omega.{arith}
 use lib.ListN.{length, take}
 use lib.Seq.{sets, sets-eq, take-at}
 use Rattle.base.specs.declared.Refusal.{Refusal}
-use Rattle.varint.specs.Reader.{Read, got, bad}
+use Rattle.varint.specs.Reader.{Read, got, refused}
 use Rattle.sheet.specs.Sheet.{Sheet, sheetOf}
 use Rattle.sheet.specs.Call.{rowsFrom, RowsLaid, sheetRead, SheetAnswer}
 use Rattle.sheet.specs.declared.AddressSpace.{AddressSpace}
@@ -36,7 +36,7 @@ few-rows bytes image pagefile v h e f = go (sheetOf bytes image pagefile) refl (
     go (got s at) g k =
         let n : length (s .runs) ≡ h .count = cc in
         omega (arith, accepted-laws bytes image pagefile s at g .most)
-    go (bad r) g k = absurd (let z : _≡_ {A = ℕ} 0 1 = cc in omega arith)
+    go (refused r) g k = absurd (let z : _≡_ {A = ℕ} 0 1 = cc in omega arith)
 
 pub sheet-accepted : (c : Case) (old : List ℕ) (v : SheetRead) (new : List ℕ) (h : Header) → SheetAnswer (checkOf c) old v new → v ≡ sheet-read.Accepted h → Opens c old (Ready (h .space) (3 * h .count)) new
 sheet-accepted c old v new h q f = record { same = go (checkOf c) (sym (q .same) ∙ f); rows = q .rows }
@@ -45,23 +45,23 @@ sheet-accepted c old v new h q f = record { same = go (checkOf c) (sym (q .same)
     go (got s at) k =
         let own : record { space = s .space; count = length (s .runs) } ≡ h = cc in
         ap (λ (x : Header). Ready (x .space) (3 * x .count)) (sym own)
-    go (bad r) k = absurd (let z : _≡_ {A = ℕ} 0 1 = cc in omega arith)
+    go (refused r) k = absurd (let z : _≡_ {A = ℕ} 0 1 = cc in omega arith)
 
 pub sheet-refused : (c : Case) (old : List ℕ) (v : SheetRead) (new : List ℕ) (r : Refusal) → SheetAnswer (checkOf c) old v new → v ≡ sheet-read.Refused r → Opens c old (Refused r) new
 sheet-refused c old v new r q f = record { same = go (checkOf c) (sym (q .same) ∙ f); rows = q .rows }
   where
     go : (d : Read Sheet) → sheetRead d ≡ sheet-read.Refused r → Refused r ≡ openedOf d
     go (got s at) k = absurd (let z : _≡_ {A = ℕ} 0 1 = cc in omega arith)
-    go (bad x) k = cc
+    go (refused x) k = cc
 
 -- ---- its callers
 
-pub refused-case : (c : Case) (old : List ℕ) (v : Opened) (new : List ℕ) (r : Refusal) → Opens c old v new → v ≡ Refused r → checkOf c ≡ bad r
+pub refused-case : (c : Case) (old : List ℕ) (v : Opened) (new : List ℕ) (r : Refusal) → Opens c old v new → v ≡ Refused r → checkOf c ≡ refused r
 refused-case c old v new r q f = go (checkOf c) (sym (q .same) ∙ f)
   where
-    go : (d : Read Sheet) → openedOf d ≡ Refused r → d ≡ bad r
+    go : (d : Read Sheet) → openedOf d ≡ Refused r → d ≡ refused r
     go (got s at) k = absurd (let z : _≡_ {A = ℕ} 0 1 = cc in omega arith)
-    go (bad x) k = cc
+    go (refused x) k = cc
 
 rows-length : (pages : ℕ) (rs : List Run) → length (rowsFrom pages rs) ≡ 3 * length rs
 rows-length pages [] = refl
@@ -80,7 +80,7 @@ enough-numbers c = go (checkOf c) refl
   where
     go : (d : Read Sheet) → checkOf c ≡ d → numbersOf d ≤ 96
     go (got s at) e = omega (arith, accepted-laws (c .sheet) (length (c .image)) (length (c .pagefile)) s at e .most)
-    go (bad r) e = omega arith
+    go (refused r) e = omega arith
 
 -- numbers that are enough for a sheet of at most 12 bytes: it has at most 4 runs
 pub enough-for-short : (c : Case) → length (c .sheet) ≤ 12 → rowNumbers c ≤ 12
@@ -88,7 +88,7 @@ enough-for-short c h = go (checkOf c) refl
   where
     go : (d : Read Sheet) → checkOf c ≡ d → numbersOf d ≤ 12
     go (got s at) e = omega (arith, few-bytes (c .sheet) (length (c .image)) (length (c .pagefile)) s at e)
-    go (bad r) e = omega arith
+    go (refused r) e = omega arith
 
 -- an accepted case, opened over numbers that are enough for its rows
 pub record Accepted (c : Case) (space : AddressSpace) (n : ℕ) (rows : List ℕ) : Type 0 where
@@ -119,9 +119,9 @@ accepted-case c old v new space n h q f = go (checkOf c) refl (q .rows) (sym (q 
           laws = q;
           sound = sound-case s (c .image) (c .pagefile) q;
         }
-    go (bad r) g l k = absurd (let z : _≡_ {A = ℕ} 0 1 = cc in omega arith)
+    go (refused r) g l k = absurd (let z : _≡_ {A = ℕ} 0 1 = cc in omega arith)
 
-pub refused-grounded : (c : Case) (r : Refusal) → checkOf c ≡ bad r → (a : ℕ) → GroundedAt c a
+pub refused-grounded : (c : Case) (r : Refusal) → checkOf c ≡ refused r → (a : ℕ) → GroundedAt c a
 refused-grounded c r e a = rw e tt
 
 pub accepted-grounded : (c : Case) (space : AddressSpace) (n : ℕ) (rows : List ℕ) (q : Accepted c space n rows) (a : ℕ) → GroundedAt c a

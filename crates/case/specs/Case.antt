@@ -3,7 +3,7 @@ use mathlib.Core.List.{List}
 use Prim.Native.Nat.{ℕ}
 use lib.ListN.{length}
 use Rattle.base.specs.declared.Refusal.{Refusal}
-use Rattle.varint.specs.Reader.{Read, got, bad}
+use Rattle.varint.specs.Reader.{Read, got, refused}
 use Rattle.sheet.specs.Sheet.{Sheet, sheetOf}
 use Rattle.walk.specs.Walk.{World, worldOf}
 
@@ -20,7 +20,7 @@ abbrev pub checkOf : Case → Read Sheet
 checkOf c = sheetOf (c .sheet) (length (c .image)) (length (c .pagefile))
 
 abbrev pub byCheck {ℓ} : {A : Type ℓ} → Case → (Refusal → A) → (World → A) → Read Sheet → A
-byCheck c refuse go (bad r) = refuse r
+byCheck c refuse go (refused r) = refuse r
 byCheck c refuse go (got s at) = go (worldOf s (c .image) (c .pagefile))
 
 -- the refusal, or on in the world of the accepted case

@@ -3,7 +3,7 @@ use mathlib.Core.Path.{_≡_}
 use mathlib.Core.List.{List}
 use Prim.Native.Nat.{ℕ, _*_}
 use lib.ListN.{length}
-use Rattle.varint.specs.Reader.{Read, got, bad}
+use Rattle.varint.specs.Reader.{Read, got, refused}
 use Rattle.sheet.specs.Sheet.{Sheet}
 use Rattle.sheet.specs.Call.{RowsLaid}
 use Rattle.case.specs.Case.{Case, checkOf}
@@ -13,7 +13,7 @@ use Rattle.case.specs.declared.Opened.the-variants.{Ready, Refused}
 -- how many numbers the rows of a case take: three a run
 abbrev pub numbersOf : Read Sheet → ℕ
 numbersOf (got s at) = 3 * length (s .runs)
-numbersOf (bad r) = 0
+numbersOf (refused r) = 0
 
 abbrev pub rowNumbers : Case → ℕ
 rowNumbers c = numbersOf (checkOf c)
@@ -21,7 +21,7 @@ rowNumbers c = numbersOf (checkOf c)
 -- the address space of an accepted case, and how many numbers its rows take
 abbrev pub openedOf : Read Sheet → Opened
 openedOf (got s at) = Ready (s .space) (3 * length (s .runs))
-openedOf (bad r) = Refused r
+openedOf (refused r) = Refused r
 
 -- the rows of an accepted case lie over the lent numbers
 pub record Opens (c : Case) (old : List ℕ) (r : Opened) (new : List ℕ) : Type 0 where

@@ -11,50 +11,50 @@ use Rattle.base.specs.Codes.{isCode}
 use Rattle.base.specs.declared.Refusal.the-variants.{FrameTooWide, FileBacked, OtherPagefile, UpperEntryNotValid}
 use Rattle.entry.specs.Pages.{pagefilePage}
 use Rattle.entry.specs.Addresses.{canonical, reachable}
-use Rattle.entry.specs.Entry.{valid, wide, frameOf, largeOf, upperOf, validOf, transition, transitionOf, prototype, extended, softwareOf, leafOf, prototypeOf}
+use Rattle.entry.specs.Entry.{valid, tooWide, frameOf, largeOf, upperOf, validOf, transition, transitionOf, prototype, extended, softwareOf, leafOf, prototypeOf}
 use Rattle.entry.specs.declared.PageSize.{PageSize}
 use Rattle.entry.specs.declared.PageSize.the-variants.{Page4K, Page2M, Page1G}
 use Rattle.entry.specs.declared.Level.{Level}
-use Rattle.entry.specs.declared.Rest.{Rest}
-use Rattle.entry.specs.declared.Rest.the-variants.{InFrame, InPagefile, ZeroPage, Refuses}
+use Rattle.entry.specs.declared.EntryPlace.{EntryPlace}
+use Rattle.entry.specs.declared.EntryPlace.the-variants.{InFrame, InPagefile, ZeroPage, Refused}
 use Rattle.entry.specs.declared.Upper.{Upper}
 use Rattle.entry.specs.declared.Upper.the-variants.{Table, LargePage, UpperNeedsRegion}
 use Rattle.entry.specs.declared.Upper.the-variants as upper
 use Rattle.entry.specs.declared.Leaf.{Leaf}
 use Rattle.entry.specs.declared.Leaf.the-variants.{Settled, Prototype, NeedsRegion}
 
-abbrev pub RestCoded : Rest → Type 0
-RestCoded (InFrame f s) = Unit {0}
-RestCoded (InPagefile p) = p .0 < 2 ^ 32
-RestCoded ZeroPage = Unit {0}
-RestCoded (Refuses r) = isCode (refusalNumber r) ≡ true
+abbrev pub EntryPlaceCoded : EntryPlace → Type 0
+EntryPlaceCoded (InFrame f s) = Unit {0}
+EntryPlaceCoded (InPagefile p) = p .0 < 2 ^ 32
+EntryPlaceCoded ZeroPage = Unit {0}
+EntryPlaceCoded (Refused r) = isCode (refusalNumber r) ≡ true
 
-valid-coded : (e : ℕ) → RestCoded (validOf e)
+valid-coded : (e : ℕ) → EntryPlaceCoded (validOf e)
 unfolding isCode
-valid-coded e = go (wide e)
+valid-coded e = go (tooWide e)
   where
-    go : (b : Bool) → RestCoded (if b then Refuses FrameTooWide else InFrame (frameOf e) Page4K)
+    go : (b : Bool) → EntryPlaceCoded (if b then Refused FrameTooWide else InFrame (frameOf e) Page4K)
     go true = refl
     go false = tt
 
-software-coded : (e : ℕ) → RestCoded (softwareOf e)
+software-coded : (e : ℕ) → EntryPlaceCoded (softwareOf e)
 unfolding isCode
 software-coded e = go (eqb (bits e 32 63) 0) (not (eqb (bits e 1 4) 0))
   where
     small : bits e 32 63 < 2 ^ 32
     small = omega arith
 
-    go : (a b : Bool) → RestCoded (if a then ZeroPage else if b then Refuses OtherPagefile else InPagefile (pagefilePage (bits e 32 63)))
+    go : (a b : Bool) → EntryPlaceCoded (if a then ZeroPage else if b then Refused OtherPagefile else InPagefile (pagefilePage (bits e 32 63)))
     go true b = tt
     go false true = refl
     go false false = small
 
 -- the entry from step 4
-pub prototype-coded : (e : ℕ) → RestCoded (prototypeOf e)
+pub prototype-coded : (e : ℕ) → EntryPlaceCoded (prototypeOf e)
 unfolding prototypeOf isCode
 prototype-coded e = go (valid e) (prototype e) (transition e)
   where
-    go : (a b c : Bool) → RestCoded (if a then validOf e else if b then Refuses FileBacked else if c then transitionOf e else softwareOf e)
+    go : (a b c : Bool) → EntryPlaceCoded (if a then validOf e else if b then Refused FileBacked else if c then transitionOf e else softwareOf e)
     go true b c = valid-coded e
     go false true c = refl
     go false false true = tt
@@ -68,7 +68,7 @@ UpperCoded UpperNeedsRegion = Unit {0}
 
 pub upper-coded : (l : Level) (e : ℕ) → UpperCoded (upperOf l e)
 unfolding upperOf isCode
-upper-coded l e = go (not (valid e)) (l .region) (wide e) (bit e 7) (l .large)
+upper-coded l e = go (not (valid e)) (l .region) (tooWide e) (bit e 7) (l .large)
   where
     go : (a b c d : Bool) (s : PageSize)
         → UpperCoded (
@@ -100,7 +100,7 @@ extended-reaches x h = go (bit x 47) refl
     go false e = rw (lt-ltb x (2 ^ 64) (omega arith), low e)
 
 abbrev pub LeafCoded : Leaf → Type 0
-LeafCoded (Settled r) = RestCoded r
+LeafCoded (Settled r) = EntryPlaceCoded r
 LeafCoded (Prototype t) = reachable t ≡ true
 LeafCoded NeedsRegion = Unit {0}
 

@@ -12,7 +12,7 @@ use Rattle.base.specs.Notation.{if_then_else_}
 use Rattle.base.specs.declared.Refusal.{Refusal}
 use Rattle.base.specs.declared.Refusal.the-variants.{TrailingBytes}
 use Rattle.base.proofs.Test.{Test, test, below, above}
-use Rattle.varint.specs.Reader.{Read, got, bad, after, return}
+use Rattle.varint.specs.Reader.{Read, got, refused, after, return}
 use Rattle.map_format.specs.Extents.{mappedPage, hasFilePage, pageAfter, noExtent, pageAt}
 use Rattle.map_format.specs.Reading.{extentFrom, extentsFrom}
 use Rattle.map_format.specs.Inner.{FieldsInLimits}
@@ -46,11 +46,11 @@ answerAfter old done k es = if ltb k done then old else pageAt es (k - done)
 
 abbrev readAfter : List ℕ → MappedPage → ℕ → ℕ → Read (List Extent) → PageRead
 readAfter s old done k (got es at) = if eqb at (length s) then Answered (answerAfter old done k es) else Refused TrailingBytes
-readAfter s old done k (bad r) = Refused r
+readAfter s old done k (refused r) = Refused r
 
 page-none : (s : List ℕ) (old : MappedPage) (k : ℕ) (d : Read (List Extent)) → pageIn s k d ≡ readAfter s old 0 k d
 page-none s old k (got es at) = rw (le-ltb k 0 (omega arith), sub-zero k)
-page-none s old k (bad r) = refl
+page-none s old k (refused r) = refl
 
 answer-more : (old : MappedPage) (done k : ℕ) (e : Extent) (es : List Extent) → answerAfter old done k (e ∷ es) ≡ answerAfter (noteOf old done k e) (done + e .pages) k es
 unfolding noteOf
@@ -67,7 +67,7 @@ answer-more old done k e es = go (test k done) (test (k - done) (e .pages))
 page-more : (s : List ℕ) (old : MappedPage) (done k : ℕ) (e : Extent) (d : Read (List Extent))
     → readAfter s old done k (after s (λ (es : List Extent). return (e ∷ es)) d) ≡ readAfter s (noteOf old done k e) (done + e .pages) k d
 page-more s old done k e (got es at) = ap (λ (p : MappedPage). if eqb at (length s) then Answered p else Refused TrailingBytes) (answer-more old done k e es)
-page-more s old done k e (bad r) = refl
+page-more s old done k e (refused r) = refl
 
 after-below : (left : ℕ) (e : Extent) (n : ℕ) → WithPagesLeft left e → n < e .pages → (b : Bool) → (if b then e .first + n else e .first) < 2 ^ 36
 after-below left e n q h true = omega (arith, q .rules .top)
@@ -90,7 +90,7 @@ module _ (n left : ℕ) (prev : Extent) (s : List ℕ) (at : ℕ) where
   unfolding extentsFrom
   read-more h e next w = rw (ne-eqb left 0 h, w)
 
-  read-bad : (left ≡ 0 → ⊥) → (r : Refusal) → extentFrom left prev s at ≡ bad r → extentsFrom (suc n) left prev s at ≡ bad r
+  read-bad : (left ≡ 0 → ⊥) → (r : Refusal) → extentFrom left prev s at ≡ refused r → extentsFrom (suc n) left prev s at ≡ refused r
   unfolding extentsFrom
   read-bad h r w = rw (ne-eqb left 0 h, w)
 
@@ -130,8 +130,8 @@ module _ {s : List ℕ} {from count k at left : ℕ} {prev : Extent} {old : Mapp
     one-left : q .fuel ≡ suc (q .fuel - 1)
     one-left = suc-pred (q .fuel) left h (q .enough)
 
-    pub refused : (r : Refusal) → extentFrom left prev s at ≡ bad r → Refused r ≡ pageIn s k (extentsFrom count count noExtent s from)
-    refused r w = sym (q .same ∙ rw one-left (ap (readAfter s old (count - left) k) (read-bad (q .fuel - 1) left prev s at (λ z. omega arith) r w)))
+    pub no-extent-read : (r : Refusal) → extentFrom left prev s at ≡ refused r → Refused r ≡ pageIn s k (extentsFrom count count noExtent s from)
+    no-extent-read r w = sym (q .same ∙ rw one-left (ap (readAfter s old (count - left) k) (read-bad (q .fuel - 1) left prev s at (λ z. omega arith) r w)))
 
     pub again : (e : Extent) (next : ℕ) → extentFrom left prev s at ≡ got e next → Looking s from count k next (left - e .pages) e (noteOf old (count - left) k e)
     again e next w =

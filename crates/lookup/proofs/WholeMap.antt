@@ -14,7 +14,7 @@ use Rattle.base.proofs.Test.{Test, test, below, above}
 use Rattle.entry.specs.Addresses.{canonical}
 use Rattle.entry.specs.Pages.{virtualPageOf}
 use Rattle.entry.specs.declared.VirtualPage.{VirtualPage}
-use Rattle.varint.specs.Reader.{Read, got, bad, after, return}
+use Rattle.varint.specs.Reader.{Read, got, refused, after, return}
 use Rattle.map_format.specs.Extents.{noExtent, pageAt}
 use Rattle.map_format.specs.Reading.{headerFields, extentsFrom, Map, mapFields}
 use Rattle.map_format.specs.declared.Extent.{Extent}
@@ -29,7 +29,7 @@ use Rattle.lookup.specs.declared.PageRead.the-variants.{Answered, Refuse
 
 -- the map of a header, when its extents were read and the end is judged
 abbrev ending : Header → List Extent → List ℕ → ℕ → Bool → Read Map
-ending h es s i b = after s (λ (u : Unit {0}). return (record { header = h; extents = es })) (if b then got tt i else bad TrailingBytes)
+ending h es s i b = after s (λ (u : Unit {0}). return (record { header = h; extents = es })) (if b then got tt i else refused TrailingBytes)
 
 abbrev mapRead : Header → List ℕ → Read (List Extent) → Read Map
 mapRead h s d = after s (λ (es : List Extent). λ (t : List ℕ) (i : ℕ). ending h es t i (eqb i (length t))) d
@@ -42,7 +42,7 @@ page-asked a h es false = refl
 
 module _ (s : List ℕ) (a : ℕ) (h : Header) where
   refused-in : (k : ℕ) (d : Read (List Extent)) (q : Refusal) → pageIn s k d ≡ Refused q → refusedLookup q ≡ lookupIn a (mapRead h s d)
-  refused-in k (bad p) q e =
+  refused-in k (refused p) q e =
       let same : p ≡ q = cc in
       ap refusedLookup (sym same)
   refused-in k (got es i) q e = go (eqb i (length s)) e
@@ -55,7 +55,7 @@ module _ (s : List ℕ) (a : ℕ) (h : Header) where
 
   answered-in : (d : Read (List Extent)) (p : MappedPage) → pageIn s (askedOf h (virtualPageOf a)) d ≡ Answered p → foundFor h a p ≡ lookupIn a (mapRead h s d)
   unfolding foundFor askedOf
-  answered-in (bad q) p e = absurd (let z : _≡_ {A = ℕ} 0 1 = cc in omega arith)
+  answered-in (refused q) p e = absurd (let z : _≡_ {A = ℕ} 0 1 = cc in omega arith)
   answered-in (got es i) p e = go (eqb i (length s)) e
     where
       go : (b : Bool) → (if b then Answered (pageAt es (askedOf h (virtualPageOf a))) else Refused TrailingBytes) ≡ Answered p → foundFor h a p ≡ lookupIn a (ending h es s i b)
@@ -79,7 +79,7 @@ file-below v p e h =
     own
 
 module _ (s : List ℕ) (a : ℕ) where
-  pub no-header : (r : Refusal) → headerFields s 0 ≡ bad r → refusedLookup r ≡ lookupOf s a
+  pub no-header : (r : Refusal) → headerFields s 0 ≡ refused r → refusedLookup r ≡ lookupOf s a
   unfolding lookupOf mapFields
   no-header r e = rw e
 

@@ -7,7 +7,7 @@ use Rattle.base.specs.Notation.{if_then_else_}
 use Rattle.base.specs.Refusal.{refusalNumber}
 use Rattle.base.specs.declared.Refusal.{Refusal}
 use Rattle.base.specs.declared.Refusal.the-variants.{NotCanonical, OutsideMap}
-use Rattle.varint.specs.Reader.{Read, got, bad}
+use Rattle.varint.specs.Reader.{Read, got, refused}
 use Rattle.entry.specs.Addresses.{canonical}
 use Rattle.entry.specs.Pages.{virtualPageOf}
 use Rattle.entry.specs.declared.VirtualPage.{VirtualPage}
@@ -29,7 +29,7 @@ abbrev pub inRange : Header → VirtualPage → Bool
 inRange h page = leb (h .start .0) (page .0) && ltb (page .0) (h .start .0 + h .count)
 
 abbrev pub lookupIn : ℕ → Read Map → Found
-lookupIn a (bad r) = refusedLookup r
+lookupIn a (refused r) = refusedLookup r
 lookupIn a (got m at) =
     if not (canonical a) then refusedLookup NotCanonical else
     if inRange (m .header) (virtualPageOf a)

@@ -6,7 +6,7 @@ use lib.Dec.{ltb, leb, eqb}
 use lib.ListN.{length}
 use Rattle.base.specs.Notation.{if_then_else_}
 use Rattle.base.specs.declared.Refusal.the-variants.{TrailingBytes, NotCanonical, OutsideMap}
-use Rattle.varint.specs.Reader.{Read, got, bad}
+use Rattle.varint.specs.Reader.{Read, got, refused}
 use Rattle.entry.specs.Addresses.{canonical}
 use Rattle.entry.specs.Pages.{virtualPageOf}
 use Rattle.entry.specs.declared.VirtualPage.{VirtualPage}
@@ -26,7 +26,7 @@ noteOf old done k e = if leb done k && ltb (k - done) (e .pages) then mappedPage
 -- page k of the extents that were read, if no byte stands after them
 abbrev pub pageIn : List ℕ → ℕ → Read (List Extent) → PageRead
 pageIn s k (got es at) = if eqb at (length s) then Answered (pageAt es k) else Refused TrailingBytes
-pageIn s k (bad r) = Refused r
+pageIn s k (refused r) = Refused r
 
 abbrev pub FileBelow : PageRead → Type 0
 FileBelow (Answered p) = p .file < 2 ^ 36

@@ -5,7 +5,7 @@ use Prim.Native.Nat.{ℕ}
 use Rattle.base.specs.Example.{Example, same, Hold}
 use Rattle.base.specs.Refusal.{refusalNumber}
 use Rattle.base.specs.Codes.{isCode}
-use Rattle.varint.specs.Reader.{Read, got, bad}
+use Rattle.varint.specs.Reader.{Read, got, refused}
 use Rattle.varint.specs.Groups.{encode, decode, number}
 use Rattle.varint.specs.Edition.{editionFields}
 use Rattle.entry.specs.Pages.{virtualPage}
@@ -42,7 +42,7 @@ maps-hold = (refl, (refl, (refl, (refl, tt))))
 -- 0 for a map that is taken
 answer-of : Read Map → ℕ
 answer-of (got m at) = 0
-answer-of (bad r) = refusalNumber r
+answer-of (refused r) = refusalNumber r
 
 answer : List ℕ → ℕ
 answer bytes = answer-of (mapFields bytes 0)

@@ -11,7 +11,7 @@ use Rattle.base.specs.declared.Refusal.{Refusal}
 use Rattle.base.proofs.Test.{both-true}
 use Rattle.base.specs.declared.Refusal.the-variants.{OutOfLimits}
 use Rattle.entry.specs.Pages.{virtualPage}
-use Rattle.varint.specs.Reader.{Read, got, bad, after, return}
+use Rattle.varint.specs.Reader.{Read, got, refused, after, return}
 use Rattle.varint.specs.Edition.{editionFields}
 use Rattle.varint.specs.declared.EditionFields.{EditionFields}
 use Rattle.varint.proofs.Reader.{came, held, returned}
@@ -22,11 +22,11 @@ use Rattle.map_format.specs.declared.HeaderRead.{HeaderRead}
 use Rattle.map_format.specs.declared.HeaderRead.the-variants.{Fields, Refused}
 
 judging : (s : List ℕ) (h : Header) (next : ℕ) (b : Bool)
-    → (if b then Fields h next else Refused OutOfLimits) ≡ asHeaderRead (after s (λ (x : Unit {0}). return h) (if b then got tt next else bad OutOfLimits))
+    → (if b then Fields h next else Refused OutOfLimits) ≡ asHeaderRead (after s (λ (x : Unit {0}). return h) (if b then got tt next else refused OutOfLimits))
 judging s h next true = refl
 judging s h next false = refl
 
-pub no-fields : (s : List ℕ) (r : Refusal) → editionFields s 0 ≡ bad r → headerFields s 0 ≡ bad r
+pub no-fields : (s : List ℕ) (r : Refusal) → editionFields s 0 ≡ refused r → headerFields s 0 ≡ refused r
 unfolding headerFields
 no-fields s r e = rw e
 
@@ -61,8 +61,8 @@ header-range s at h next e =
 -- what a caller of `read_header` learns
 pub header-got : (d : Read Header) (v : HeaderRead) (h : Header) (next : ℕ) → v ≡ asHeaderRead d → v ≡ Fields h next → d ≡ got h next
 header-got (got g j) v h next e f = cc
-header-got (bad q) v h next e f = absurd (let z : _≡_ {A = ℕ} 0 1 = cc in omega arith)
+header-got (refused q) v h next e f = absurd (let z : _≡_ {A = ℕ} 0 1 = cc in omega arith)
 
-pub header-refused : (d : Read Header) (v : HeaderRead) (q : Refusal) → v ≡ asHeaderRead d → v ≡ Refused q → d ≡ bad q
+pub header-refused : (d : Read Header) (v : HeaderRead) (q : Refusal) → v ≡ asHeaderRead d → v ≡ Refused q → d ≡ refused q
 header-refused (got h j) v q e f = absurd (let z : _≡_ {A = ℕ} 0 1 = cc in omega arith)
-header-refused (bad p) v q e f = cc
+header-refused (refused p) v q e f = cc

@@ -11,9 +11,9 @@ use Rattle.base.specs.Codes.{isCode}
 use Rattle.base.specs.declared.Refusal.{Refusal}
 use Rattle.base.proofs.Test.{both-true}
 use Rattle.base.specs.declared.Refusal.the-variants.{BadExtent}
-use Rattle.varint.specs.Reader.{Read, got, bad, after, return}
+use Rattle.varint.specs.Reader.{Read, got, refused, after, return}
 use Rattle.varint.specs.Groups.{number}
-use Rattle.varint.specs.Answer.{numberOf}
+use Rattle.varint.specs.Answer.{asNumber}
 use Rattle.varint.specs.declared.Number.{Number}
 use Rattle.varint.specs.declared.Number.the-variants.{Value}
 use Rattle.varint.proofs.Reader.{came, held, returned}
@@ -27,17 +27,17 @@ use Rattle.map_format.specs.declared.ExtentRead.the-variants.{Taken, Ref
 use Rattle.map_format.proofs.Rules.{KeepsRules}
 
 judging : (s : List ℕ) (e : Extent) (next : ℕ) (b : Bool)
-    → (if b then Taken e next else Refused BadExtent) ≡ asExtentRead (after s (λ (x : Unit {0}). return e) (if b then got tt next else bad BadExtent))
+    → (if b then Taken e next else Refused BadExtent) ≡ asExtentRead (after s (λ (x : Unit {0}). return e) (if b then got tt next else refused BadExtent))
 judging s e next true = refl
 judging s e next false = refl
 
 -- ---- the first page of the file
 
 module _ (s : List ℕ) (at code : ℕ) where
-  pub no-field : hasFilePage code ≡ false → Value 0 at ≡ numberOf (firstFrom code s at)
+  pub no-field : hasFilePage code ≡ false → Value 0 at ≡ asNumber (firstFrom code s at)
   no-field h = rw h
 
-  pub a-field : hasFilePage code ≡ true → (v : Number) → v ≡ numberOf (number s at) → v ≡ numberOf (firstFrom code s at)
+  pub a-field : hasFilePage code ≡ true → (v : Number) → v ≡ asNumber (number s at) → v ≡ asNumber (firstFrom code s at)
   a-field h v e = rw h e
 
   first-in-limits : (first next : ℕ) → firstFrom code s at ≡ got first next → first < 2 ^ 36
@@ -57,22 +57,22 @@ module _ (s : List ℕ) (at code : ℕ) where
 -- ---- test by test
 
 module _ (s : List ℕ) (at left : ℕ) (prev : Extent) where
-  pub no-code : (r : Refusal) → number s at ≡ bad r → extentFrom left prev s at ≡ bad r
+  pub no-code : (r : Refusal) → number s at ≡ refused r → extentFrom left prev s at ≡ refused r
   unfolding extentFrom
   no-code r e = rw e
 
   module _ (code a : ℕ) (e₁ : number s at ≡ got code a) where
-    pub no-such-code : isCode code ≡ false → extentFrom left prev s at ≡ bad BadExtent
+    pub no-such-code : isCode code ≡ false → extentFrom left prev s at ≡ refused BadExtent
     unfolding extentFrom
     no-such-code l = rw (e₁, l)
 
     module _ (l : isCode code ≡ true) where
-      pub no-length : (r : Refusal) → number s a ≡ bad r → extentFrom left prev s at ≡ bad r
+      pub no-length : (r : Refusal) → number s a ≡ refused r → extentFrom left prev s at ≡ refused r
       unfolding extentFrom
       no-length r e = rw (e₁, l, e)
 
       module _ (pages b : ℕ) (e₂ : number s a ≡ got pages b) where
-        pub no-first : (r : Refusal) → firstFrom code s b ≡ bad r → extentFrom left prev s at ≡ bad r
+        pub no-first : (r : Refusal) → firstFrom code s b ≡ refused r → extentFrom left prev s at ≡ refused r
         unfolding extentFrom
         no-first r e = rw (e₁, l, e₂, e)
 
@@ -128,8 +128,8 @@ extent-keeps s at left prev e next w =
 -- what a caller of `read_extent` learns
 pub extent-got : (d : Read Extent) (v : ExtentRead) (e : Extent) (next : ℕ) → v ≡ asExtentRead d → v ≡ Taken e next → d ≡ got e next
 extent-got (got e₁ j) v e next w f = cc
-extent-got (bad q) v e next w f = absurd (let z : _≡_ {A = ℕ} 0 1 = cc in omega arith)
+extent-got (refused q) v e next w f = absurd (let z : _≡_ {A = ℕ} 0 1 = cc in omega arith)
 
-pub extent-refused : (d : Read Extent) (v : ExtentRead) (q : Refusal) → v ≡ asExtentRead d → v ≡ Refused q → d ≡ bad q
+pub extent-refused : (d : Read Extent) (v : ExtentRead) (q : Refusal) → v ≡ asExtentRead d → v ≡ Refused q → d ≡ refused q
 extent-refused (got e j) v q w f = absurd (let z : _≡_ {A = ℕ} 0 1 = cc in omega arith)
-extent-refused (bad p) v q w f = cc
+extent-refused (refused p) v q w f = cc

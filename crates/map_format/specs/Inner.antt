@@ -4,7 +4,7 @@ use mathlib.Core.Bool.{false}
 use Prim.Native.Nat.{ℕ, _^_, _<_}
 use Rattle.base.specs.Notation.{if_then_else_}
 use Rattle.base.specs.declared.Refusal.the-variants.{OutOfLimits, BadExtent}
-use Rattle.varint.specs.Reader.{Read, got, bad}
+use Rattle.varint.specs.Reader.{Read, got, refused}
 use Rattle.entry.specs.Pages.{virtualPage}
 use Rattle.map_format.specs.Extents.{hasFilePage}
 use Rattle.map_format.specs.Reading.{inHalf, sound}
@@ -17,7 +17,7 @@ use Rattle.map_format.specs.declared.ExtentRead.the-variants as extent
 
 abbrev pub asHeaderRead : Read Header → HeaderRead
 asHeaderRead (got h next) = header.Fields h next
-asHeaderRead (bad r) = header.Refused r
+asHeaderRead (refused r) = header.Refused r
 
 abbrev pub judgedRange : ℕ → ℕ → ℕ → HeaderRead
 judgedRange start count next =
@@ -26,7 +26,7 @@ judgedRange start count next =
 
 abbrev pub asExtentRead : Read Extent → ExtentRead
 asExtentRead (got e next) = extent.Taken e next
-asExtentRead (bad r) = extent.Refused r
+asExtentRead (refused r) = extent.Refused r
 
 abbrev pub judgedExtent : ℕ → Extent → Extent → ℕ → ExtentRead
 judgedExtent left prev e next = if sound left prev e then extent.Taken e next else extent.Refused BadExtent

@@ -7,7 +7,7 @@ ghost use mathlib.Core.Path.{_≡_};
 ghost use mathlib.Core.List.{[], _∷_};
 ghost use Prim.Native.Nat.{_<_, _^_};
 ghost use Rattle.base.specs.Overlay.{Wrote};
-ghost use Rattle.varint.specs.Answer.{numberOf};
+ghost use Rattle.varint.specs.Answer.{asNumber};
 ghost use Rattle.map_format.specs.Extents.{hasFilePage, pageAfter};
 ghost use Rattle.map_format.specs.Layout.{headerBytes, extentBytes};
 ghost use Rattle.map_format.specs.Reading.{headerFields, firstFrom, sound, extentFrom};
@@ -219,7 +219,7 @@ pub fn read_extent(s: &[u8], at: usize, left: u64, prev: Extent) -> ExtentRead
 }
 
 fn read_first(s: &[u8], at: usize, code: u64) -> Number
-    ensures { λ r. ⌜ r ≡ numberOf (firstFrom code (now (s .entry)) at) ⌝ }
+    ensures { λ r. ⌜ r ≡ asNumber (firstFrom code (now (s .entry)) at) ⌝ }
 {
     if !has_file_page(code) {
         return Number::Value(0, at);

@@ -14,7 +14,7 @@ use Rattle.base.specs.declared.Refusal.{Refusal}
 use Rattle.base.specs.declared.Refusal.the-variants.{BadMapRange, MapBufferShort}
 use Rattle.base.proofs.Test.{Test, test, below, above, both-true}
 use Rattle.base.proofs.Numbers.{ten-or-more}
-use Rattle.varint.specs.Reader.{bad}
+use Rattle.varint.specs.Reader.{refused}
 use Rattle.sheet.specs.Sheet.{runPages}
 use Rattle.sheet.specs.declared.AddressSpace.{AddressSpace}
 use Rattle.sheet.proofs.AcceptedCase.{pages-below}
@@ -202,7 +202,7 @@ module _ (c : Case) where
       omega (arith, q .laws .image-pages)
 
   module _ (start count : ℕ) (old : List ℕ) where
-    pub refused-case-map : (x : Refusal) → checkOf c ≡ bad x → (r : Written) → r ≡ notWritten x → MapAnswer c start count old r old
+    pub refused-case-map : (x : Refusal) → checkOf c ≡ refused x → (r : Written) → r ≡ notWritten x → MapAnswer c start count old r old
     unfolding mapCall
     refused-case-map x e r g = record { same = rw (e, g); demand3 = rw e tt; grounded = refused-grounded c x e }
 

@@ -11,7 +11,7 @@ use Rattle.map_format.specs.Extents.{pageAt, extentPages, Lengths}
 use Rattle.map_format.specs.declared.Extent.{Extent}
 use Rattle.lookup.specs.Call.{answerAt, lookupOf}
 use Rattle.lookup.specs.declared.Found.{Found}
-use Rattle.varint.specs.Reader.{Read, got, bad}
+use Rattle.varint.specs.Reader.{Read, got, refused}
 use Rattle.map_format.specs.Reading.{Map, mapFields}
 use Rattle.maps.specs.MapOf.{mapOf}
 
@@ -28,7 +28,7 @@ pub record AnswersAsWalk (w : World) (start count : ℕ) (es : List Extent) : Ty
 -- no list of extents that answers so is shorter than the map that was read
 abbrev pub Fewest : World → ℕ → ℕ → Read Map → Type 0
 Fewest w start count (got m at) = (es : List Extent) → AnswersAsWalk w start count es → length (m .extents) ≤ length es
-Fewest w start count (bad r) = ⊥
+Fewest w start count (refused r) = ⊥
 
 pub record Demand3 (w : World) (start count : ℕ) (old : List ℕ) (out : WriteOutcome) : Type 0 where
   -- refused for room exactly if its bytes are more than the buffer holds, and for nothing else

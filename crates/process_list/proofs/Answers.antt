@@ -11,7 +11,7 @@ use Rattle.base.specs.declared.Written.{Written}
 use Rattle.base.specs.declared.Refusal.{Refusal}
 use Rattle.base.specs.declared.Refusal.the-variants.{LinkUnaligned}
 use Rattle.base.proofs.Overlay.{sets-none}
-use Rattle.varint.specs.Reader.{bad}
+use Rattle.varint.specs.Reader as reader
 use Rattle.sheet.specs.declared.AddressSpace.{AddressSpace}
 use Rattle.walk.specs.Walk.{World, worldOf, resolveOf}
 use Rattle.walk.specs.Rows.{rowsWorld}
@@ -61,7 +61,7 @@ module _ (ns : Nodes) (old last : List ℕ) (r : Followed) (p : Pass ns [] r las
 -- ---- the call
 
 module _ (c : Case) (h : ℕ) (old : List ℕ) where
-  pub refused-case-list : (x : Refusal) → checkOf c ≡ bad x → (r : Written) → r ≡ notWritten x → ListAnswer c h old r old
+  pub refused-case-list : (x : Refusal) → checkOf c ≡ reader.refused x → (r : Written) → r ≡ notWritten x → ListAnswer c h old r old
   unfolding listOf
   refused-case-list x e r g = record { same = rw (e, g); exact = rw e tt; found = rw e tt; grounded = refused-grounded c x e }
 

@@ -53,7 +53,7 @@ abbrev pub unlessHead : ℕ → (ℕ → Nodes) → Linked → Nodes
 unlessHead h judge (Refused r) = refused r
 unlessHead h judge (Address x) = if eqb x h then nodes [] else judge x
 
--- the nodes after x, of which so many may still come (52), with room for so many (53)
+-- the nodes after x, of which n may still come (52), with room for `room` (53)
 unfoldable pub nodesAfter : ℕ → World → ℕ → ℕ → ℕ → Nodes
 nodesAfter zero w room h x = unlessHead h (λ y. refused TooManyProcesses) (nextNode w x)
 nodesAfter (suc n) w room h x = unlessHead h (λ y. if eqb room 0 then refused ListBufferShort else andNode y (nodesAfter n w (room - 1) h y)) (nextNode w x)

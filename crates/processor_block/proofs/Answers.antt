@@ -5,7 +5,7 @@ use Prim.Native.Nat.{ℕ, _%_}
 use native.Mathlib.Omega.{arith}
 use lib.ListN.{length, take}
 use Rattle.base.specs.declared.Refusal.{Refusal}
-use Rattle.varint.specs.Reader.{bad}
+use Rattle.varint.specs.Reader.{refused}
 use Rattle.sheet.specs.declared.AddressSpace.{AddressSpace}
 use Rattle.walk.specs.Walk.{World, worldOf}
 use Rattle.case.specs.Case.{Case, checkOf}
@@ -18,7 +18,7 @@ use Rattle.processor_block.specs.Inner.{Searches}
 use Rattle.processor_block.proofs.Meaning.{exact-from}
 
 module _ (c : Case) where
-  pub refused-search : (from : ℕ) (r : Refusal) → checkOf c ≡ bad r → BlockAnswer c from (refusal r)
+  pub refused-search : (from : ℕ) (r : Refusal) → checkOf c ≡ refused r → BlockAnswer c from (refusal r)
   unfolding blockOf
   refused-search from r e = record { same = rw e; exact = rw e tt }
 

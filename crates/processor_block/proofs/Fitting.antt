@@ -54,12 +54,12 @@ module _ (image : List ℕ) (o : ℕ) where
     pub all-fit : o % 4096 ≤ 0xE28 → 0xFFFF000000000000 < own → 0xFFFF000000000000 < prcb → prcb - 0x180 ≡ own
         → (d : ℕ) → d ≡ directoryWord image o → eqb (d / 281474976710656 % 16) 0 ≡ wordsFit image o
     unfolding wordsFit
-    all-fit near high behind h d g = sym (rw (
+    all-fit near high next h d g = sym (rw (
       le-leb (o % 4096) 0xE28 near,
       ← e,
       lt-ltb 0xFFFF000000000000 own high,
       ← f,
-      lt-ltb 0xFFFF000000000000 prcb behind,
+      lt-ltb 0xFFFF000000000000 prcb next,
       eq-eqb prcb (own + 0x180) (omega arith),
       ← g,
     ))

@@ -34,7 +34,7 @@ module _ (w : World) where
       ∙ skip (n - j) (o + j) (h j (omega arith))
       ∙ at-same (n - j - 1) (n - suc j) (suc (o + j)) (o + suc j) (omega arith) (omega arith)
 
-  -- the seven offsets behind a word's first are no multiples of 8
+  -- the seven offsets after a word's first are no multiples of 8
   pub next-word : (n i : ℕ) → isBlock w (8 * i) ≡ false → firstBlock (n - 8 * i) w (8 * i) ≡ firstBlock (n - 8 * (i + 1)) w (8 * (i + 1))
   next-word n i h = skips 8 (n - 8 * i) (8 * i) (λ k l. none k l (test 0 k)) ∙ at-same (n - 8 * i - 8) (n - 8 * (i + 1)) (8 * i + 8) (8 * (i + 1)) (omega arith) (omega arith)
     where

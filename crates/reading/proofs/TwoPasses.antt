@@ -9,7 +9,7 @@ use lib.Seq.{sets}
 use borrow.Author.Tests.{lt-ltb, le-ltb}
 use Rattle.base.specs.declared.Refusal.{Refusal}
 use Rattle.base.specs.declared.Refusal.the-variants.{ReadBufferShort}
-use Rattle.varint.specs.Reader.{bad}
+use Rattle.varint.specs.Reader as reader
 use Rattle.sheet.specs.declared.AddressSpace.{AddressSpace}
 use Rattle.walk.specs.Walk.{World, worldOf, resolveOf, Inside}
 use Rattle.walk.specs.Rows.{rowsWorld}
@@ -52,7 +52,7 @@ module _ (b : Bytes) (n : ℕ) (old last : List ℕ) (r : Filled) (f : FilledWit
       go (refused y) h l = absurd (let z : _≡_ {A = ℕ} 0 1 = cc in omega arith)
 
 module _ (c : Case) (a n : ℕ) (old : List ℕ) where
-  pub refused-case-read : (x : Refusal) → checkOf c ≡ bad x → (r : BytesRead) → r ≡ refusedBytes x → ReadAnswer c a n old r old
+  pub refused-case-read : (x : Refusal) → checkOf c ≡ reader.refused x → (r : BytesRead) → r ≡ refusedBytes x → ReadAnswer c a n old r old
   unfolding readOf
   refused-case-read x e r g = record { same = rw (e, g); found = rw e tt }
 

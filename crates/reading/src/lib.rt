@@ -210,7 +210,7 @@ fn lay(image: &[u8], pagefile: &[u8], place: Place, m: u64, out: &mut [u8], at: 
     }
 }
 
-// How many of m bytes from `at` on a buffer of so many bytes has room for.
+// How many of m bytes from `at` on a buffer of `size` bytes has room for.
 fn room(size: usize, at: u64, m: u64) -> usize
     ensures { λ r. ⌜ Room size at m r ⌝ }
 {

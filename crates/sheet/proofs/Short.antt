@@ -10,8 +10,9 @@ use Rattle.base.specs.Notation.{within}
 use Rattle.base.specs.declared.Refusal.the-variants.{OutOfLimits, BadRun, TrailingBytes, ImageLengthDiffers, PagefileNotWholePages}
 use Rattle.varint.specs.Reader.{got}
 use Rattle.varint.specs.Groups.{number}
+use Rattle.varint.specs.Edition.{editionFields}
 use Rattle.varint.proofs.Reader.{came, held, returned}
-use Rattle.varint.proofs.Onward.{field-onward}
+use Rattle.varint.proofs.Onward.{field-onward, fields-onward}
 use Rattle.entry.specs.Pages.{frame}
 use Rattle.sheet.specs.Sheet.{spaceAt, header, runFrom, runsFrom, endOf, runPages, Sheet, sheetFields, sheetOf}
 use Rattle.sheet.specs.declared.Header.{Header}
@@ -21,18 +22,11 @@ use Rattle.sheet.proofs.AcceptedCase.{Runs, runs-chain}
 header-onward : (s : List ℕ) (h : Header) (next : ℕ) → header s 0 ≡ got h next → 3 ≤ next
 unfolding header
 header-onward s h next e =
-    let c₁ = came s _ (number s 0) h next e in
-    let t₁ = held s _ (eqb (c₁ .value) 1) OutOfLimits (c₁ .at) h next (c₁ .rest) in
-    let c₂ = came s _ (number s (c₁ .at)) h next (t₁ .1) in
-    let c₃ = came s _ (number s (c₂ .at)) h next (c₂ .rest) in
-    let t₂ = held s _ (within 1 32 (c₃ .value)) OutOfLimits (c₃ .at) h next (c₃ .rest) in
-    let same = returned (record { space = spaceAt (c₂ .value); count = c₃ .value }) h (c₃ .at) next (t₂ .1) .1 in
-    omega (
-      arith,
-      field-onward s 0 (c₁ .value) (c₁ .at) (c₁ .field),
-      field-onward s (c₁ .at) (c₂ .value) (c₂ .at) (c₂ .field),
-      field-onward s (c₂ .at) (c₃ .value) (c₃ .at) (c₃ .field),
-    )
+    let c = came s _ (editionFields s 0) h next e in
+    let f = c .value in
+    let t = held s _ (within 1 32 (f .second)) OutOfLimits (c .at) h next (c .rest) in
+    let same = returned (record { space = spaceAt (f .first); count = f .second }) h (c .at) next (t .1) .1 in
+    omega (arith, fields-onward s 0 f (c .at) (c .field))
 
 run-onward : (s : List ℕ) (at least end : ℕ) (r : Run) (next : ℕ) → runFrom least end s at ≡ got r next → at + 2 ≤ next
 unfolding runFrom

@@ -4,7 +4,7 @@ use mathlib.Core.List.{List, [], _∷_}
 use Prim.Native.Nat.{ℕ, _+_, _-_}
 use lib.ListN.{length}
 use lib.Seq.{sets}
-use Rattle.varint.specs.Reader.{Read, got, bad}
+use Rattle.varint.specs.Reader.{Read, got, refused}
 use Rattle.sheet.specs.Sheet.{Sheet, endOf}
 use Rattle.sheet.specs.declared.Run.{Run}
 use Rattle.sheet.specs.declared.SheetRead.{SheetRead}
@@ -17,12 +17,12 @@ rowsFrom pages (r ∷ rs) = r .first .0 ∷ endOf r ∷ (r .first .0 - pages) �
 
 abbrev pub sheetRead : Read Sheet → SheetRead
 sheetRead (got s at) = Accepted (record { space = s .space; count = length (s .runs) })
-sheetRead (bad r) = Refused r
+sheetRead (refused r) = Refused r
 
 -- the rows of an accepted sheet lie over the lent numbers; what a refused sheet leaves there is free
 abbrev pub RowsLaid : List ℕ → Read Sheet → List ℕ → Type 0
 RowsLaid old (got s at) new = new ≡ sets old 0 (rowsFrom 0 (s .runs))
-RowsLaid old (bad r) new = Unit {0}
+RowsLaid old (refused r) new = Unit {0}
 
 pub record SheetAnswer (d : Read Sheet) (old : List ℕ) (r : SheetRead) (new : List ℕ) : Type 0 where
   pub same : r ≡ sheetRead d

@@ -8,7 +8,7 @@ use lib.ListN.{set}
 use lib.Seq.{sets}
 use Rattle.base.specs.Notation.{if_then_else_, within}
 use Rattle.base.specs.declared.Refusal.the-variants.{OutOfLimits, ImageLengthDiffers, PagefileNotWholePages}
-use Rattle.varint.specs.Reader.{Read, got, bad}
+use Rattle.varint.specs.Reader.{Read, got, refused}
 use Rattle.sheet.specs.Sheet.{spaceAt, endOf, runPages}
 use Rattle.sheet.specs.Call.{rowsFrom}
 use Rattle.sheet.specs.declared.Header.{Header}
@@ -24,7 +24,7 @@ use Rattle.sheet.specs.declared.SheetRead.the-variants as sheet-read
 
 abbrev pub headerRead : Read Header → HeaderRead
 headerRead (got h next) = header-read.Fields h next
-headerRead (bad r) = header-read.Refused r
+headerRead (refused r) = header-read.Refused r
 
 -- the fields before the runs, with a number for the count
 abbrev pub fieldsRead : ℕ → ℕ → ℕ → HeaderRead
@@ -33,7 +33,7 @@ fieldsRead directory count next =
 
 abbrev pub runRead : Read Run → RunRead
 runRead (got r next) = run-read.Taken r next
-runRead (bad r) = run-read.Refused r
+runRead (refused r) = run-read.Refused r
 
 -- the numbers with a run's row at place i; `pages` is how many pages stand before it in the image
 abbrev pub withRow : List ℕ → ℕ → ℕ → Run → List ℕ
@@ -42,7 +42,7 @@ withRow rows i pages r = set (set (set rows (3 * i) (r .first .0)) (3 * i + 1) (
 -- runs that were read: their pages, and their rows over the lent numbers
 abbrev pub RunsLaid : Read (List Run) → List ℕ → RunsRead → List ℕ → Type 0
 RunsLaid (got rs next) old r new = (r ≡ runs-read.Laid (runPages rs) next) × (new ≡ sets old 0 (rowsFrom 0 rs))
-RunsLaid (bad q) old r new = r ≡ runs-read.Refused q
+RunsLaid (refused q) old r new = r ≡ runs-read.Refused q
 
 -- the answer for fields that were read, the pages of the runs, and the two lengths
 abbrev pub lengthsRead : Header → ℕ → ℕ → ℕ → SheetRead

@@ -7,7 +7,7 @@ use lib.Dec.{eqb}
 use borrow.Author.Tests.{eq-eqb, ne-eqb}
 use Rattle.base.specs.declared.Refusal.{Refusal}
 use Rattle.base.specs.declared.Refusal.the-variants.{OutOfLimits}
-use Rattle.varint.specs.Reader.{Read, got, bad}
+use Rattle.varint.specs.Reader.{Read, got, refused}
 use Rattle.varint.specs.Groups.{number}
 use Rattle.varint.specs.Edition.{editionFields, asEditionRead}
 use Rattle.varint.specs.declared.EditionFields.{EditionFields}
@@ -16,22 +16,22 @@ use Rattle.varint.specs.declared.EditionRead.the-variants.{Fields, Refus
 use Rattle.varint.proofs.Reader.{came, held, returned}
 use Rattle.varint.proofs.Fields.{field-below}
 
-pub no-edition : (s : List ℕ) (r : Refusal) → number s 0 ≡ bad r → editionFields s 0 ≡ bad r
+pub no-edition : (s : List ℕ) (r : Refusal) → number s 0 ≡ refused r → editionFields s 0 ≡ refused r
 unfolding editionFields
 no-edition s r e = rw e
 
 module _ (s : List ℕ) (edition a : ℕ) (e₁ : number s 0 ≡ got edition a) where
-  pub other-edition : (edition ≡ 1 → ⊥) → editionFields s 0 ≡ bad OutOfLimits
+  pub other-edition : (edition ≡ 1 → ⊥) → editionFields s 0 ≡ refused OutOfLimits
   unfolding editionFields
   other-edition h = rw (e₁, ne-eqb edition 1 h)
 
   module _ (h : edition ≡ 1) where
-    pub no-first : (r : Refusal) → number s a ≡ bad r → editionFields s 0 ≡ bad r
+    pub no-first : (r : Refusal) → number s a ≡ refused r → editionFields s 0 ≡ refused r
     unfolding editionFields
     no-first r e = rw (e₁, eq-eqb edition 1 h, e)
 
     module _ (first b : ℕ) (e₂ : number s a ≡ got first b) where
-      pub no-second : (r : Refusal) → number s b ≡ bad r → editionFields s 0 ≡ bad r
+      pub no-second : (r : Refusal) → number s b ≡ refused r → editionFields s 0 ≡ refused r
       unfolding editionFields
       no-second r e = rw (e₁, eq-eqb edition 1 h, e₂, e)
 
@@ -61,8 +61,8 @@ fields-below s at f next e =
 -- what a caller of `read_edition_fields` learns
 pub fields-got : (d : Read EditionFields) (v : EditionRead) (f : EditionFields) (next : ℕ) → v ≡ asEditionRead d → v ≡ Fields f next → d ≡ got f next
 fields-got (got g j) v f next e w = cc
-fields-got (bad q) v f next e w = absurd (let z : _≡_ {A = ℕ} 0 1 = cc in omega arith)
+fields-got (refused q) v f next e w = absurd (let z : _≡_ {A = ℕ} 0 1 = cc in omega arith)
 
-pub fields-refused : (d : Read EditionFields) (v : EditionRead) (q : Refusal) → v ≡ asEditionRead d → v ≡ Refused q → d ≡ bad q
+pub fields-refused : (d : Read EditionFields) (v : EditionRead) (q : Refusal) → v ≡ asEditionRead d → v ≡ Refused q → d ≡ refused q
 fields-refused (got f j) v q e w = absurd (let z : _≡_ {A = ℕ} 0 1 = cc in omega arith)
-fields-refused (bad p) v q e w = cc
+fields-refused (refused p) v q e w = cc

@@ -2,14 +2,16 @@
 use mathlib.Core.Path.{_≡_, refl}
 use mathlib.Core.Bool.{Bool, true, false}
 use mathlib.Core.List.{List, [], _∷_}
-use Prim.Native.Nat.{ℕ, zero, suc, _-_, _^_, _<_}
+use Prim.Native.Nat.{ℕ, zero, suc, _+_, _-_, _^_, _<_, _≤_}
 use native.Mathlib.Omega.{arith}
-use lib.Dec.{ltb}
+use lib.Dec.{ltb, eqb}
 use lib.ListN.{drop}
 use Rattle.base.specs.Notation.{if_then_else_}
 use Rattle.base.specs.declared.Refusal.the-variants.{NumberMalformed, OutOfLimits}
-use Rattle.varint.specs.Reader.{Read, got, bad}
+use Rattle.varint.specs.Reader.{Read, got, refused}
 use Rattle.varint.specs.Groups.{under, dec, decode, number}
+use Rattle.varint.specs.Edition.{editionFields}
+use Rattle.varint.specs.declared.EditionFields.{EditionFields}
 use Rattle.varint.proofs.Reader.{came, held, returned}
 
 -- what is left of the groups ends after its place
@@ -25,9 +27,9 @@ dec-onward (suc g) least at (x ∷ xs) n next e = go (ltb x 128) (ltb x least) (
     more ih (got m j) f k =
         let same : j ≡ next = cc in
         omega (arith, ih m j f)
-    more ih (bad r) f k = absurd (let z : _≡_ {A = ℕ} 0 1 = cc in omega arith)
+    more ih (refused r) f k = absurd (let z : _≡_ {A = ℕ} 0 1 = cc in omega arith)
 
-    go : (a b : Bool) → Deeper g (suc at) xs → (if a then (if b then bad NumberMalformed else got x (suc at)) else under (x - 128) (dec g 1 (suc at) xs)) ≡ got n next → at < next
+    go : (a b : Bool) → Deeper g (suc at) xs → (if a then (if b then refused NumberMalformed else got x (suc at)) else under (x - 128) (dec g 1 (suc at) xs)) ≡ got n next → at < next
     go true true ih k = absurd (let z : _≡_ {A = ℕ} 0 1 = cc in omega arith)
     go true false ih k =
         let same : suc at ≡ next = cc in
@@ -41,3 +43,19 @@ field-onward s at n next e =
     let t = held s _ (ltb (c .value) (2 ^ 36)) OutOfLimits (c .at) n next (c .rest) in
     let same : c .at ≡ next = returned (c .value) n (c .at) next (t .1) .1 in
     omega (arith, dec-onward 6 0 at (drop at s) (c .value) (c .at) (c .field))
+
+-- edition and two fields take three
+pub fields-onward : (s : List ℕ) (at : ℕ) (f : EditionFields) (next : ℕ) → editionFields s at ≡ got f next → at + 3 ≤ next
+unfolding editionFields
+fields-onward s at f next e =
+    let c₁ = came s _ (number s at) f next e in
+    let t₁ = held s _ (eqb (c₁ .value) 1) OutOfLimits (c₁ .at) f next (c₁ .rest) in
+    let c₂ = came s _ (number s (c₁ .at)) f next (t₁ .1) in
+    let c₃ = came s _ (number s (c₂ .at)) f next (c₂ .rest) in
+    let same = returned (record { first = c₂ .value; second = c₃ .value }) f (c₃ .at) next (c₃ .rest) .1 in
+    omega (
+      arith,
+      field-onward s at (c₁ .value) (c₁ .at) (c₁ .field),
+      field-onward s (c₁ .at) (c₂ .value) (c₂ .at) (c₂ .field),
+      field-onward s (c₂ .at) (c₃ .value) (c₃ .at) (c₃ .field),
+    )

@@ -1,7 +1,7 @@
 -- 01 "Case sheet", "Maps": a sheet and a map open with edition 1 and two fields.
 use lib.Dec.{eqb}
 use Rattle.base.specs.declared.Refusal.the-variants.{OutOfLimits}
-use Rattle.varint.specs.Reader.{Read, got, bad, Reader, _>>=_, _>>_, return, need}
+use Rattle.varint.specs.Reader.{Read, got, refused, Reader, _>>=_, _>>_, return, need}
 use Rattle.varint.specs.Groups.{number}
 use Rattle.varint.specs.declared.EditionFields.{EditionFields}
 use Rattle.varint.specs.declared.EditionRead.{EditionRead}
@@ -19,4 +19,4 @@ editionFields = do
 -- the same, as the code hands it back
 abbrev pub asEditionRead : Read EditionFields → EditionRead
 asEditionRead (got f next) = Fields f next
-asEditionRead (bad r) = Refused r
+asEditionRead (refused r) = Refused r

@@ -13,14 +13,15 @@ use Rattle.entry.specs.Addresses.{reachable}
 use Rattle.entry.specs.Entry.{levelOf, upperOf, leafOf, prototypeOf}
 use Rattle.entry.specs.declared.Frame.{Frame}
 use Rattle.entry.specs.declared.Level.{Level}
-use Rattle.entry.specs.declared.Rest.{Rest}
-use Rattle.entry.specs.declared.Rest.the-variants.{InFrame, InPagefile, ZeroPage, Refuses}
+use Rattle.entry.specs.declared.EntryPlace.{EntryPlace}
+use Rattle.entry.specs.declared.EntryPlace.the-variants.{InFrame, InPagefile, ZeroPage}
+use Rattle.entry.specs.declared.EntryPlace.the-variants as entry-place
 use Rattle.entry.specs.declared.Upper.{Upper}
 use Rattle.entry.specs.declared.Upper.the-variants.{Table, LargePage, UpperNeedsRegion}
 use Rattle.entry.specs.declared.Upper.the-variants as upper
 use Rattle.entry.specs.declared.Leaf.{Leaf}
 use Rattle.entry.specs.declared.Leaf.the-variants.{Settled, Prototype, NeedsRegion}
-use Rattle.entry.proofs.Codes.{RestCoded, UpperCoded, LeafCoded, prototype-coded, upper-coded, leaf-coded}
+use Rattle.entry.proofs.Codes.{EntryPlaceCoded, UpperCoded, LeafCoded, prototype-coded, upper-coded, leaf-coded}
 use Rattle.words.specs.Words.{wordAt}
 use Rattle.walk.specs.Walk.{
   World,
@@ -33,7 +34,7 @@ use Rattle.walk.specs.Walk.{
   frameIn,
   settleOf,
   settled,
-  wordIn,
+  wordAtPlace,
   entryOffset,
   entryOf,
   upperStep,
@@ -48,8 +49,8 @@ use Rattle.walk.specs.Walk.{
   resolveOf,
   stop,
 }
-use Rattle.walk.specs.declared.Found.{Found}
-use Rattle.walk.specs.declared.Found.the-variants.{Page, Absent}
+use Rattle.walk.specs.declared.ImagePage.{ImagePage}
+use Rattle.walk.specs.declared.ImagePage.the-variants.{Page, Absent}
 use Rattle.walk.specs.declared.Place.{Place}
 use Rattle.walk.specs.declared.Place.the-variants.{Image, Pagefile, Zeros, Refused}
 use Rattle.walk.proofs.Ground.{Sound}
@@ -61,12 +62,12 @@ PlaceCoded Zeros = Unit {0}
 PlaceCoded (Refused r) = isCode (refusalNumber r) ≡ true
 
 module _ (w : World) (q : Sound w) (small : length (w .image) ≤ 2 ^ 48) where
-  page-coded : (a : ℕ) (f : Frame) (x : Found) → w .page f ≡ x → PlaceCoded (inPage a x)
+  page-coded : (a : ℕ) (f : Frame) (x : ImagePage) → w .page f ≡ x → PlaceCoded (inPage a x)
   unfolding isCode
   page-coded a f Absent e = refl
   page-coded a f (Page p) e = let h : p * 4096 + 4096 ≤ length (w .image) = q .whole f p e in omega arith
 
-  settle-coded : (a : ℕ) (r : Rest) → RestCoded r → PlaceCoded (settled w a r)
+  settle-coded : (a : ℕ) (r : EntryPlace) → EntryPlaceCoded r → PlaceCoded (settled w a r)
   unfolding settleOf isCode
   settle-coded a (InFrame f s) t = page-coded a (frameIn f s a) (w .page (frameIn f s a)) refl
   settle-coded a (InPagefile p) t = go (leb (p .0 * 4096 + 4096) (length (w .pagefile)))
@@ -75,9 +76,9 @@ module _ (w : World) (q : Sound w) (small : length (w .image) ≤ 2 ^ 48) where
       go true = omega arith
       go false = refl
   settle-coded a ZeroPage t = tt
-  settle-coded a (Refuses r) t = t
+  settle-coded a (entry-place.Refused r) t = t
 
-  entry-coded : (l : Level) (a : ℕ) (next : ℕ → Trail) (x : Found) → ((e : ℕ) → LeafCoded (next e .leaf)) → LeafCoded (entryOf (w .image) l a next x .leaf)
+  entry-coded : (l : Level) (a : ℕ) (next : ℕ → Trail) (x : ImagePage) → ((e : ℕ) → LeafCoded (next e .leaf)) → LeafCoded (entryOf (w .image) l a next x .leaf)
   unfolding isCode
   entry-coded l a next Absent h = refl
   entry-coded l a next (Page p) h = h (wordAt (w .image) (entryOffset l p a))
@@ -88,7 +89,7 @@ module _ (w : World) (q : Sound w) (small : length (w .image) ≤ 2 ^ 48) where
   step-coded (upper.Refused r) next t h = t
   step-coded UpperNeedsRegion next t h = tt
 
-  descend-coded : (n : ℕ) (t : Found) (a : ℕ) → LeafCoded (descendOf n (w .page) (w .image) t a .leaf)
+  descend-coded : (n : ℕ) (t : ImagePage) (a : ℕ) → LeafCoded (descendOf n (w .page) (w .image) t a .leaf)
   unfolding descendOf
   descend-coded zero t a = entry-coded (levelOf 0) a (λ e. halt (leafOf e)) t (λ e. leaf-coded e)
   descend-coded (suc n) t a =
@@ -101,8 +102,8 @@ module _ (w : World) (q : Sound w) (small : length (w .image) ≤ 2 ^ 48) where
 
   judged-coded : (a : ℕ) (v : Walked) (p : Place) → v .place ≡ p → PlaceCoded p → PlaceCoded (judgedAt w a v p .place)
   judged-coded a v (Refused r) e m = rw e m
-  judged-coded a v (Image o) e m = settle-coded a (prototypeOf (wordIn w (Image o))) (prototype-coded (wordIn w (Image o)))
-  judged-coded a v (Pagefile o) e m = settle-coded a (prototypeOf (wordIn w (Pagefile o))) (prototype-coded (wordIn w (Pagefile o)))
+  judged-coded a v (Image o) e m = settle-coded a (prototypeOf (wordAtPlace w (Image o))) (prototype-coded (wordAtPlace w (Image o)))
+  judged-coded a v (Pagefile o) e m = settle-coded a (prototypeOf (wordAtPlace w (Pagefile o))) (prototype-coded (wordAtPlace w (Pagefile o)))
   judged-coded a v Zeros e m = settle-coded a (prototypeOf 0) (prototype-coded 0)
 
   proto-coded : (a t : ℕ) (next : Next) → NextCoded next → reachable t ≡ true → PlaceCoded (protoStep w next a t .place)

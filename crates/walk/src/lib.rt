@@ -1,10 +1,10 @@
 // From an address of a case to a place in the image or the pagefile.
 use base::Refusal;
+use entry::EntryPlace;
 use entry::Frame;
 use entry::Leaf;
 use entry::PageSize;
 use entry::PagefilePage;
-use entry::Rest;
 use entry::Upper;
 use sheet::AddressSpace;
 ghost use mathlib.Core.Path.{_≡_};
@@ -14,8 +14,21 @@ ghost use Rattle.entry.specs.Entry.{levelOf};
 ghost use Rattle.walk.specs.Walk.{frameIn, inPage, pagefilePlace, settleOf, descendOf, wordOf, resolveOf};
 ghost use Rattle.walk.specs.Rows.{pageInRows, rowsPage, rowsWorld, TableInside, entryRead, descentOf, noTable, endedAfter, WordInside, refusedPlace, prototypeStep, resolvedOf};
 
+// 01 "One address": the lowest address bit of the index at each level, from the last up.
+const BIT_12: u64 = 0x1000;
+
+const BIT_21: u64 = 0x200000;
+
+const BIT_30: u64 = 0x40000000;
+
+const BIT_39: u64 = 0x8000000000;
+// Pages of 4 KiB in a large page.
+const PAGES_2M: u64 = 0x200;
+
+const PAGES_1G: u64 = 0x40000;
+
 // The image page of a frame.
-pub enum Found {
+pub enum ImagePage {
     Page(u64),
     Absent,
 }
@@ -47,7 +60,7 @@ pub struct Resolved {
 }
 
 // The image page of a frame: the first row that has it.
-fn find_page(rows: &[u64], f: Frame) -> Found
+fn find_page(rows: &[u64], f: Frame) -> ImagePage
     ensures { λ r. ⌜ r ≡ pageInRows (now (rows .entry)) f ⌝ }
 {
     let n = f.number();
@@ -56,50 +69,50 @@ fn find_page(rows: &[u64], f: Frame) -> Found
         if rows[i] <= n {
             if n < rows[i + 1] {
                 let skipped = rows[i + 2];
-                return Found::Page(less(n, skipped));
+                return ImagePage::Page(saturating_sub(n, skipped));
             }
         }
         i += 3;
     }
-    Found::Absent
+    ImagePage::Absent
 }
 
-fn less(n: u64, m: u64) -> u64
+fn saturating_sub(n: u64, m: u64) -> u64
     ensures { λ r. ⌜ r ≡ n - m ⌝ }
 {
     if m <= n { n - m } else { 0 }
 }
 
-// The image page of a frame, where the image of so many bytes has it.
-fn locate(rows: &[u64], size: u64, f: Frame) -> Found
+// The image page of a frame, where an image of `size` bytes has it.
+fn locate(rows: &[u64], size: u64, f: Frame) -> ImagePage
     ensures { λ r. ⌜ r ≡ rowsPage (now (rows .entry)) size f ⌝ }
 {
     let found = find_page(rows, f);
     match found {
-        Found::Absent => Found::Absent,
-        Found::Page(p) => {
+        ImagePage::Absent => ImagePage::Absent,
+        ImagePage::Page(p) => {
             if p < size / 4096 {
-                return Found::Page(p);
+                return ImagePage::Page(p);
             }
-            Found::Absent
+            ImagePage::Absent
         }
     }
 }
 
-// The index of an address in a table with so many levels below it.
+// The index of an address in a table with `below` levels below it.
 fn index(below: u64, address: u64) -> u64
     ensures { λ r. ⌜ (r ≡ address / 2 ^ levelOf below .low % 512) × (r < 512) ⌝ }
 {
     if below == 0 {
-        return address / 4096 % 512;
+        return address / BIT_12 % 512;
     }
     if below == 1 {
-        return address / 2097152 % 512;
+        return address / BIT_21 % 512;
     }
     if below == 2 {
-        return address / 1073741824 % 512;
+        return address / BIT_30 % 512;
     }
-    address / 549755813888 % 512
+    address / BIT_39 % 512
 }
 
 // The frame of an address in the page of this size that holds a frame.
@@ -109,19 +122,19 @@ fn frame_in(f: Frame, size: PageSize, address: u64) -> Frame
     let n = f.number();
     match size {
         PageSize::Page4K => f,
-        PageSize::Page2M => Frame::numbered(n / 512 * 512 + address / 4096 % 512),
-        PageSize::Page1G => Frame::numbered(n / 262144 * 262144 + address / 4096 % 262144),
+        PageSize::Page2M => Frame::numbered(n / PAGES_2M * PAGES_2M + address / 4096 % PAGES_2M),
+        PageSize::Page1G => Frame::numbered(n / PAGES_1G * PAGES_1G + address / 4096 % PAGES_1G),
     }
 }
 
-// The entry for an address in a table with so many levels below it.
-fn table_entry(image: &[u8], table: Found, below: u64, address: u64) -> EntryRead
+// The entry for an address in a table with `below` levels below it.
+fn table_entry(image: &[u8], table: ImagePage, below: u64, address: u64) -> EntryRead
     requires { ⌜ TableInside (now image) table ⌝ }
     ensures { λ r. ⌜ r ≡ entryRead (now (image .entry)) (levelOf below) address table ⌝ }
 {
     match table {
-        Found::Absent => EntryRead::NoTable,
-        Found::Page(p) => {
+        ImagePage::Absent => EntryRead::NoTable,
+        ImagePage::Page(p) => {
             let at = p * 4096 + 8 * index(below, address);
             EntryRead::Entry(words::word_at(image, at))
         }
@@ -129,7 +142,7 @@ fn table_entry(image: &[u8], table: Found, below: u64, address: u64) -> EntryRea
 }
 
 // Down the four levels from the place of the top table.
-fn descend(rows: &[u64], image: &[u8], top: Found, address: u64) -> Descent
+fn descend(rows: &[u64], image: &[u8], top: ImagePage, address: u64) -> Descent
     requires { ⌜ TableInside (now image) top ⌝ }
     ensures { λ r. ⌜ r ≡ descentOf (descendOf 3 (rowsPage (now (rows .entry)) (length (now (image .entry)))) (now (image .entry)) top address) ⌝ }
 {
@@ -149,10 +162,10 @@ fn descend(rows: &[u64], image: &[u8], top: Found, address: u64) -> Descent
                         return ended(Leaf::NeedsRegion, entries);
                     }
                     Upper::LargePage(f, page) => {
-                        return ended(Leaf::Settled(Rest::InFrame(f, page)), entries);
+                        return ended(Leaf::Settled(EntryPlace::InFrame(f, page)), entries);
                     }
                     Upper::Refused(refusal) => {
-                        return ended(Leaf::Settled(Rest::Refuses(refusal)), entries);
+                        return ended(Leaf::Settled(EntryPlace::Refused(refusal)), entries);
                     }
                     Upper::Table(f) => {
                         table = locate(rows, size, f);
@@ -181,7 +194,10 @@ fn descend_from(rows: &[u64], image: &[u8], space: AddressSpace, address: u64) -
 fn no_table(entries: u64) -> Descent
     ensures { λ r. ⌜ r ≡ noTable entries ⌝ }
 {
-    ended(Leaf::Settled(Rest::Refuses(Refusal::FrameInNoRun)), entries)
+    ended(
+        Leaf::Settled(EntryPlace::Refused(Refusal::FrameInNoRun)),
+        entries,
+    )
 }
 
 fn ended(leaf: Leaf, entries: u64) -> Descent
@@ -197,8 +213,8 @@ fn in_frame(rows: &[u64], image: &[u8], f: Frame, address: u64) -> Place
     let size = image.len() as u64;
     let found = locate(rows, size, f);
     match found {
-        Found::Absent => Place::Refused(Refusal::FrameInNoRun),
-        Found::Page(p) => Place::Image(p * 4096 + address % 4096),
+        ImagePage::Absent => Place::Refused(Refusal::FrameInNoRun),
+        ImagePage::Page(p) => Place::Image(p * 4096 + address % 4096),
     }
 }
 
@@ -215,19 +231,19 @@ fn in_pagefile(pagefile: &[u8], page: PagefilePage, address: u64) -> Place
 }
 
 // Where an entry leads by itself, for an address.
-fn settle(rows: &[u64], image: &[u8], pagefile: &[u8], address: u64, rest: Rest) -> Place
+fn settle(rows: &[u64], image: &[u8], pagefile: &[u8], address: u64, rest: EntryPlace) -> Place
     ensures { λ r. ⌜ r ≡ settleOf (rowsPage (now (rows .entry)) (length (now (image .entry)))) (length (now (pagefile .entry))) address rest ⌝ }
 {
     match rest {
-        Rest::InFrame(f, size) => in_frame(rows, image, frame_in(f, size, address), address),
-        Rest::InPagefile(p) => in_pagefile(pagefile, p, address),
-        Rest::ZeroPage => Place::Zeros,
-        Rest::Refuses(r) => Place::Refused(r),
+        EntryPlace::InFrame(f, size) => in_frame(rows, image, frame_in(f, size, address), address),
+        EntryPlace::InPagefile(p) => in_pagefile(pagefile, p, address),
+        EntryPlace::ZeroPage => Place::Zeros,
+        EntryPlace::Refused(r) => Place::Refused(r),
     }
 }
 
 // The word at a place, 0 in a page of zeros.
-fn word_in(image: &[u8], pagefile: &[u8], place: Place) -> u64
+fn word_at_place(image: &[u8], pagefile: &[u8], place: Place) -> u64
     requires { ⌜ WordInside (now image) (now pagefile) place ⌝ }
     ensures { λ r. ⌜ r ≡ wordOf (now (image .entry)) (now (pagefile .entry)) place ⌝ }
 {
@@ -250,7 +266,7 @@ fn is_refused(place: Place) -> bool
     }
 }
 
-// An address, with so many prototype entries left.
+// An address, with `left` prototype entries left.
 fn resolve(
     rows: &[u64],
     image: &[u8],
@@ -322,7 +338,7 @@ fn prototype(
     if is_refused(at) {
         return found;
     }
-    let rest = entry::prototype_entry(word_in(image, pagefile, at));
+    let rest = entry::prototype_entry(word_at_place(image, pagefile, at));
     let place = settle(rows, image, pagefile, address, rest);
     Resolved {
         place,

@@ -1,3 +1,4 @@
+-- The turns left fall.
 use borrow.Author.Needs.{needs}
 use Rattle.address_lines.proofs.answer_all.Statement.{statement}
 use Rattle.address_lines.proofs.answer_all.Tie as tie

@@ -1,3 +1,4 @@
+-- A line fits its buffer.
 use Rattle.address_lines.proofs.Laying.{line-within, line-counts}
 use borrow.Author.Needs.{needs}
 use Rattle.address_lines.proofs.answer_next.Statement.{statement}

@@ -1,3 +1,4 @@
+-- Bytes laid one by one.
 use borrow.Author.Needs.{needs}
 use Prim.Native.Nat.{_-_}
 use lib.ListN.{length}

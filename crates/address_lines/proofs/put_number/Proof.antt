@@ -1,3 +1,4 @@
+-- The digits, then the byte after them.
 use native.Mathlib.Omega.{arith}
 use Rattle.address_lines.proofs.Decimal.{few-digits}
 use Rattle.address_lines.proofs.Laying.{field-laid}
@@ -18,19 +19,27 @@ copy-requires : tie.Need-copy-requires
 copy-requires c κs = omega (arith, few-digits _ _ (c .before .before .decimal .ensures .1 .0) (c .before .before .before .before .before .fits .n .fits), c .before .before .decimal .ensures .0 .1, c .before .before .before .before .before .pre)
 
 add-end : tie.Need-add-end
-add-end c = omega (arith, few-digits _ _ (c .before .before .before .before .before .decimal .ensures .1 .0) (c .before .before .before .before .before .before .before .before .fits .n .fits), c .before .before .before .before .before .before .before .before .pre, c .before .before .before .before .before .before .before .before .good .0)
+add-end c =
+    let start = c .before .before .before .before .before .before .before .before in
+    omega (arith, few-digits _ _ (c .before .before .before .before .before .decimal .ensures .1 .0) (start .fits .n .fits), start .pre, start .good .0)
 
 slice-write-out : tie.Need-slice-write-out
-slice-write-out c = omega (arith, few-digits _ _ (c .before .before .before .before .before .decimal .ensures .1 .0) (c .before .before .before .before .before .before .before .before .fits .n .fits), c .before .before .before .before .before .before .before .before .pre)
+slice-write-out c =
+    let start = c .before .before .before .before .before .before .before .before in
+    omega (arith, few-digits _ _ (c .before .before .before .before .before .decimal .ensures .1 .0) (start .fits .n .fits), start .pre)
 
 add-result : tie.Need-add-result
-add-result c = omega (arith, few-digits _ _ (c .before .before .before .before .before .decimal .ensures .1 .0) (c .before .before .before .before .before .before .before .before .fits .n .fits), c .before .before .before .before .before .before .before .before .pre, c .before .before .before .before .before .before .before .before .good .0)
+add-result c =
+    let start = c .before .before .before .before .before .before .before .before in
+    omega (arith, few-digits _ _ (c .before .before .before .before .before .decimal .ensures .1 .0) (start .fits .n .fits), start .pre, start .good .0)
 
 same-length : tie.Need-same-length
 same-length c = search needs
 
 returns : tie.Need-returns
-returns c = (field-laid _ _ _ (c .before .before .before .before .before .decimal .ensures .1 .0) (c .before .before .before .before .before .decimal .ensures .1 .1) (c .before .before .before .before .before .decimal .ensures .0 .1) _ _ _ _ (c .before .before .copy .ensures), omega (arith, few-digits _ _ (c .before .before .before .before .before .decimal .ensures .1 .0) (c .before .before .before .before .before .before .before .before .fits .n .fits)))
+returns c =
+    let start = c .before .before .before .before .before .before .before .before in
+    (field-laid _ _ _ (c .before .before .before .before .before .decimal .ensures .1 .0) (c .before .before .before .before .before .decimal .ensures .1 .1) (c .before .before .before .before .before .decimal .ensures .0 .1) _ _ _ _ (c .before .before .copy .ensures), omega (arith, few-digits _ _ (c .before .before .before .before .before .decimal .ensures .1 .0) (start .fits .n .fits)))
 
 pub put-number-spec : {M : Type 1} → statement M
 put-number-spec =

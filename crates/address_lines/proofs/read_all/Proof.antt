@@ -1,3 +1,4 @@
+-- What was read so far stands; the room left falls.
 use Rattle.address_lines.proofs.Reading.{kept-before}
 use borrow.Author.Needs.{needs}
 use Prim.Native.Nat.{_≤_, _-_}
@@ -31,7 +32,9 @@ same-length : tie.Need-same-length Inv-loop μ-loop
 same-length c = search needs
 
 returns : tie.Need-returns Inv-loop μ-loop
-returns c = (search needs, kept-before _ _ _ _ _ (c .before .before .before .before .before .before .loop .inv .0) (c .before .before .before .before .before .before .loop .inv .1) (c .before .before .before .before .before .before .loop .inv .3))
+returns c =
+    let at-loop = c .before .before .before .before .before .before in
+    (search needs, kept-before _ _ _ _ _ (at-loop .loop .inv .0) (at-loop .loop .inv .1) (at-loop .loop .inv .3))
 
 sub-count : tie.Need-sub-count Inv-loop μ-loop
 sub-count c = search needs
@@ -49,7 +52,9 @@ same-length-2 : tie.Need-same-length-2 Inv-loop μ-loop
 same-length-2 c = search needs
 
 returns-2 : tie.Need-returns-2 Inv-loop μ-loop
-returns-2 c = (search needs, kept-before _ _ _ _ _ (c .before .before .before .before .before .before .before .before .before .before .loop .inv .0) (c .before .before .before .before .before .before .before .before .before .before .loop .inv .1) (c .before .before .before .before .before .before .before .before .before .before .loop .inv .3))
+returns-2 c =
+    let at-loop = c .before .before .before .before .before .before .before .before .before .before in
+    (search needs, kept-before _ _ _ _ _ (at-loop .loop .inv .0) (at-loop .loop .inv .1) (at-loop .loop .inv .3))
 
 add-end : tie.Need-add-end Inv-loop μ-loop
 add-end c = search needs
@@ -58,7 +63,9 @@ loop-less : tie.Need-loop-less Inv-loop μ-loop
 loop-less c = search needs
 
 loop-again : tie.Need-loop-again Inv-loop μ-loop
-loop-again c = (search needs, search needs, search needs, kept-before _ _ _ _ _ (c .before .before .before .before .before .before .before .before .before .before .loop .inv .0) (c .before .before .before .before .before .before .before .before .before .before .loop .inv .1) (c .before .before .before .before .before .before .before .before .before .before .loop .inv .3))
+loop-again c =
+    let at-loop = c .before .before .before .before .before .before .before .before .before .before in
+    (search needs, search needs, search needs, kept-before _ _ _ _ _ (at-loop .loop .inv .0) (at-loop .loop .inv .1) (at-loop .loop .inv .3))
 
 same-length-3 : tie.Need-same-length-3 Inv-loop μ-loop
 same-length-3 c = search needs

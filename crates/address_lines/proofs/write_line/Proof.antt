@@ -1,3 +1,4 @@
+-- Three fields, one after another.
 use native.Mathlib.Omega.{arith}
 use Rattle.address_lines.proofs.Laying.{line-laid}
 use borrow.Author.Needs.{needs}
@@ -17,7 +18,9 @@ put-number-requires-3 : tie.Need-put-number-requires-3
 put-number-requires-3 c κs = search needs
 
 returns : tie.Need-returns
-returns c = let f = c .before .before .before .before .before .before .resolve-address .ensures .same in rw (← f) (line-laid _ _ _ _ _ _ _ _ (c .before .before .before .before .put-number .ensures .0) (c .before .before .put-number2 .ensures .0) (c .put-number3 .ensures .0) (omega (arith, c .before .before .before .before .put-number .ensures .1, c .before .before .put-number2 .ensures .1, c .put-number3 .ensures .1)))
+returns c =
+    let at-resolve-address = c .before .before .before .before .before .before in
+    let f = at-resolve-address .resolve-address .ensures .same in rw (← f) (line-laid _ _ _ _ _ _ _ _ (c .before .before .before .before .put-number .ensures .0) (c .before .before .put-number2 .ensures .0) (c .put-number3 .ensures .0) (omega (arith, c .before .before .before .before .put-number .ensures .1, c .before .before .put-number2 .ensures .1, c .put-number3 .ensures .1)))
 
 pub write-line-spec : {M : Type 1} → statement M
 write-line-spec =

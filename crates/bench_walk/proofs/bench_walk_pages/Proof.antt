@@ -1,3 +1,4 @@
+-- The pages left fall.
 use borrow.Author.Needs.{needs}
 use Prim.Native.Nat.{_-_}
 use Rattle.bench_walk.proofs.bench_walk_pages.Statement.{statement}

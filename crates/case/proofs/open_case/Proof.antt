@@ -15,7 +15,9 @@ enum-known-header : tie.Need-enum-known-header
 enum-known-header c = search needs
 
 mul-t16 : tie.Need-mul-t16
-mul-t16 c = omega (arith, few-rows _ _ _ _ _ (c .before .before .before .before .before .before .before .read-sheet .ensures .same) (c .before .before .before .header .given .1))
+mul-t16 c =
+    let at-read-sheet = c .before .before .before .before .before .before .before in
+    omega (arith, few-rows _ _ _ _ _ (at-read-sheet .read-sheet .ensures .same) (c .before .before .before .header .given .1))
 
 same-length : tie.Need-same-length
 same-length c = search needs

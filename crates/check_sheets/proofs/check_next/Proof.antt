@@ -1,3 +1,4 @@
+-- A record's lengths are three words of 24 bytes.
 use lib.ListN.{length-take, length-replicate}
 use native.Mathlib.Omega.{arith}
 use borrow.Author.Needs.{needs}

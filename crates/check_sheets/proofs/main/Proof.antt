@@ -1,3 +1,4 @@
+-- The turns left fall.
 use borrow.Author.Needs.{needs}
 use Prim.Native.Nat.{_≤_, _-_}
 use Rattle.check_sheets.proofs.main.Statement.{statement}

@@ -3,7 +3,7 @@ use borrow.Author.Needs.{needs}
 use native.Mathlib.Omega.{arith}
 use denote.Ref.{now}
 use Rattle.map_format.proofs.OneExtent.{extent-keeps, extent-got, extent-refused}
-use Rattle.lookup.proofs.ManyExtents.{Looking, starts, refused, again, trailing, answered}
+use Rattle.lookup.proofs.ManyExtents.{Looking, starts, no-extent-read, again, trailing, answered}
 use Rattle.lookup.proofs.read_page.Statement.{statement}
 use Rattle.lookup.proofs.read_page.Tie as tie
 
@@ -25,7 +25,7 @@ enum-known-refusal c = search needs
 returns : tie.Need-returns Inv-loop μ-loop
 returns c =
     let no-extent = extent-refused _ _ _ (c .before .before .before .read-extent .ensures) (c .before .refusal .given .1) in
-    (refused (c .before .before .before .before .before .loop .inv) (c .before .before .before .before .loop-test .taken) _ no-extent, tt)
+    (no-extent-read (c .before .before .before .before .before .loop .inv) (c .before .before .before .before .loop-test .taken) _ no-extent, tt)
 
 enum-known-e : tie.Need-enum-known-e Inv-loop μ-loop
 enum-known-e c = search needs

@@ -62,7 +62,9 @@ same-length-2 : tie.Need-same-length-2
 same-length-2 c = search needs
 
 returns-2 : tie.Need-returns-2
-returns-2 c = refused-case-map _ _ _ _ _ (refused-case _ _ _ _ _ (c .before .before .before .before .before .before .open-case .ensures) (c .before .before .refusal .given .1)) _ (c .not-written .ensures)
+returns-2 c =
+    let at-open-case = c .before .before .before .before .before .before in
+    refused-case-map _ _ _ _ _ (refused-case _ _ _ _ _ (at-open-case .open-case .ensures) (c .before .before .refusal .given .1)) _ (c .not-written .ensures)
 
 same-length-3 : tie.Need-same-length-3
 same-length-3 c = search needs
@@ -73,9 +75,10 @@ same-length-4 c = search needs
 returns-3 : tie.Need-returns-3
 returns-3 c =
     let at-space = c .before .before .before .before .before .before .before .before in
+    let at-is-allowed = c .before .before .before .before .before .before in
     let at-open = at-space .before .before .before .before in
     let opened = accepted-case _ _ _ _ _ _ (at-open .before .before .before .before .before .before .before .pre) (at-open .open-case .ensures) (at-space .space .given .1) in
-    mapped _ _ _ _ _ _ _ opened (sym (c .before .before .before .before .before .before .is-allowed .ensures) ∙ not-false _ (c .before .before .before .before .before .if1 .left)) _ _ (c .before .before .map-in .ensures)
+    mapped _ _ _ _ _ _ _ opened (sym (at-is-allowed .is-allowed .ensures) ∙ not-false _ (c .before .before .before .before .before .if1 .left)) _ _ (c .before .before .map-in .ensures)
 
 pub map-over-spec : {M : Type 1} → statement M
 map-over-spec =

@@ -1,3 +1,4 @@
+-- The head, or one node too many.
 use borrow.Author.Tests.{eq-eqb, ne-eqb}
 use borrow.Author.Needs.{needs}
 use Rattle.process_list.proofs.after_last.Statement.{statement}

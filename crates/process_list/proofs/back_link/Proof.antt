@@ -1,3 +1,4 @@
+-- 8 bytes on, unless that is past the top.
 use Rattle.process_list.proofs.Links.{link-past-top}
 use native.Mathlib.Omega.{arith}
 use borrow.Author.Needs.{needs}

@@ -1,3 +1,4 @@
+-- The nodes so far, and those from where the loop stands, are all nodes.
 use borrow.Author.Needs.{needs}
 use denote.Ref.{now}
 use mathlib.Core.Path.{sym, _∙_}
@@ -33,28 +34,46 @@ enum-known-next : tie.Need-enum-known-next Inv-loop μ-loop
 enum-known-next c = search needs
 
 same-length-2 : tie.Need-same-length-2 Inv-loop μ-loop
-same-length-2 c = following-long (c .before .before .before .before .before .before .loop .inv)
+same-length-2 c =
+    let at-loop = c .before .before .before .before .before .before in
+    following-long (at-loop .loop .inv)
 
 returns-2 : tie.Need-returns-2 Inv-loop μ-loop
-returns-2 c = back-at-head (c .before .before .before .before .before .before .loop .inv) (c .before .before .before .before .before .loop-test .taken) _ (sym (c .before .before .before .before .next-node .ensures) ∙ c .before .before .next .given .1) (c .if1 .taken)
+returns-2 c =
+    let at-loop = c .before .before .before .before .before .before in
+    back-at-head (at-loop .loop .inv) (c .before .before .before .before .before .loop-test .taken) _ (sym (c .before .before .before .before .next-node .ensures) ∙ c .before .before .next .given .1) (c .if1 .taken)
 
 same-length-3 : tie.Need-same-length-3 Inv-loop μ-loop
-same-length-3 c = following-long (c .before .before .before .before .before .before .before .loop .inv)
+same-length-3 c =
+    let at-loop = c .before .before .before .before .before .before .before in
+    following-long (at-loop .loop .inv)
 
 returns-3 : tie.Need-returns-3 Inv-loop μ-loop
-returns-3 c = no-room (c .before .before .before .before .before .before .before .loop .inv) (c .before .before .before .before .before .before .loop-test .taken) _ (sym (c .before .before .before .before .before .next-node .ensures) ∙ c .before .before .before .next .given .1) (c .before .if1 .left) (c .if2 .taken)
+returns-3 c =
+    let at-loop-test = c .before .before .before .before .before .before in
+    let at-loop = c .before .before .before .before .before .before .before in
+    no-room (at-loop .loop .inv) (at-loop-test .loop-test .taken) _ (sym (c .before .before .before .before .before .next-node .ensures) ∙ c .before .before .before .next .given .1) (c .before .if1 .left) (c .if2 .taken)
 
 put-number-requires : tie.Need-put-number-requires Inv-loop μ-loop
 put-number-requires c κs = search needs
 
 add-count : tie.Need-add-count Inv-loop μ-loop
-add-count c = omega (arith, c .before .before .before .before .before .before .before .before .before .before .loop-test .taken)
+add-count c =
+    let at-loop-test = c .before .before .before .before .before .before .before .before .before .before in
+    omega (arith, at-loop-test .loop-test .taken)
 
 loop-less : tie.Need-loop-less Inv-loop μ-loop
-loop-less c = omega (arith, c .before .before .before .before .before .before .before .before .before .before .loop-test .taken)
+loop-less c =
+    let at-loop-test = c .before .before .before .before .before .before .before .before .before .before in
+    omega (arith, at-loop-test .loop-test .taken)
 
 loop-again : tie.Need-loop-again Inv-loop μ-loop
-loop-again c = node-listed (c .before .before .before .before .before .before .before .before .before .before .before .loop .inv) (c .before .before .before .before .before .before .before .before .before .before .loop-test .taken) _ (sym (c .before .before .before .before .before .before .before .before .before .next-node .ensures) ∙ c .before .before .before .before .before .before .before .next .given .1) (c .before .before .before .before .before .if1 .left) (c .before .before .before .before .if2 .left) _ (c .before .before .put-number .ensures)
+loop-again c =
+    let at-next = c .before .before .before .before .before .before .before in
+    let at-next-node = c .before .before .before .before .before .before .before .before .before in
+    let at-loop-test = c .before .before .before .before .before .before .before .before .before .before in
+    let at-loop = c .before .before .before .before .before .before .before .before .before .before .before in
+    node-listed (at-loop .loop .inv) (at-loop-test .loop-test .taken) _ (sym (at-next-node .next-node .ensures) ∙ at-next .next .given .1) (c .before .before .before .before .before .if1 .left) (c .before .before .before .before .if2 .left) _ (c .before .before .put-number .ensures)
 
 next-node-requires-2 : tie.Need-next-node-requires-2 Inv-loop μ-loop
 next-node-requires-2 c κs = c .before .loop .inv .aligned

@@ -1,3 +1,4 @@
+-- The first pass has no room to write in; the second lays what the first found.
 use lib.ListN.{length-take}
 use native.Mathlib.Omega.{arith}
 use Rattle.process_list.proofs.Answers.{refused-list, whole-list}
@@ -30,13 +31,17 @@ same-length : tie.Need-same-length
 same-length c = search needs
 
 returns : tie.Need-returns
-returns c = refused-list _ _ _ _ (c .before .before .before .before .before .before .follow .ensures) _ (c .before .before .refusal .given .1) _ (c .not-written .ensures)
+returns c =
+    let at-follow = c .before .before .before .before .before .before in
+    refused-list _ _ _ _ (at-follow .follow .ensures) _ (c .before .before .refusal .given .1) _ (c .not-written .ensures)
 
 same-length-2 : tie.Need-same-length-2
 same-length-2 c = search needs
 
 returns-2 : tie.Need-returns-2
-returns-2 c = whole-list _ _ _ _ (c .before .before .before .before .before .before .before .before .before .follow .ensures) _ (c .before .before .before .before .before .count .given .1) _ _ (c .before .before .follow2 .ensures)
+returns-2 c =
+    let at-follow = c .before .before .before .before .before .before .before .before .before in
+    whole-list _ _ _ _ (at-follow .follow .ensures) _ (c .before .before .before .before .before .count .given .1) _ _ (c .before .before .follow2 .ensures)
 
 pub list-in-spec : {M : Type 1} → statement M
 list-in-spec =

@@ -1,3 +1,4 @@
+-- Each case of a place is a case of the definition.
 use borrow.Author.Needs.{needs}
 use Rattle.processor_block.proofs.is_at.Statement.{statement}
 use Rattle.processor_block.proofs.is_at.Tie as tie

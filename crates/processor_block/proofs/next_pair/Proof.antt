@@ -1,3 +1,4 @@
+-- Words that are not 0x180 apart begin no block.
 use Prim.Native.Nat.{_-_}
 use native.Mathlib.Omega.{arith}
 use borrow.Author.Needs.{needs}

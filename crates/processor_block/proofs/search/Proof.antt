@@ -1,3 +1,4 @@
+-- No word so far begins a block, so the first block from there on is the first of all.
 use Prim.Native.Nat.{_-_}
 use mathlib.Core.Path.{sym, _∙_}
 use mathlib.Core.Logic.{⊎-elim}
@@ -30,16 +31,24 @@ words-fit-requires : tie.Need-words-fit-requires Inv-loop μ-loop
 words-fit-requires c κs = search needs
 
 add-word-at : tie.Need-add-word-at Inv-loop μ-loop
-add-word-at c = omega (arith, fit-inside _ _ (sym (c .before .words-fit .ensures) ∙ c .if1 .taken) (c .before .before .loop-test .taken) (c .before .before .before .before .before .before .before .before .before .pre))
+add-word-at c =
+    let start = c .before .before .before .before .before .before .before .before .before in
+    omega (arith, fit-inside _ _ (sym (c .before .words-fit .ensures) ∙ c .if1 .taken) (c .before .before .loop-test .taken) (start .pre))
 
 word-at-requires : tie.Need-word-at-requires Inv-loop μ-loop
-word-at-requires c κs = omega (arith, fit-inside _ _ (sym (c .before .words-fit .ensures) ∙ c .if1 .taken) (c .before .before .loop-test .taken) (c .before .before .before .before .before .before .before .before .before .pre))
+word-at-requires c κs =
+    let start = c .before .before .before .before .before .before .before .before .before in
+    omega (arith, fit-inside _ _ (sym (c .before .words-fit .ensures) ∙ c .if1 .taken) (c .before .before .loop-test .taken) (start .pre))
 
 add-word-at-2 : tie.Need-add-word-at-2 Inv-loop μ-loop
-add-word-at-2 c = omega (arith, fit-inside _ _ (sym (c .before .before .words-fit .ensures) ∙ c .before .if1 .taken) (c .before .before .before .loop-test .taken) (c .before .before .before .before .before .before .before .before .before .before .pre))
+add-word-at-2 c =
+    let start = c .before .before .before .before .before .before .before .before .before .before in
+    omega (arith, fit-inside _ _ (sym (c .before .before .words-fit .ensures) ∙ c .before .if1 .taken) (c .before .before .before .loop-test .taken) (start .pre))
 
 word-at-requires-2 : tie.Need-word-at-requires-2 Inv-loop μ-loop
-word-at-requires-2 c κs = omega (arith, fit-inside _ _ (sym (c .before .before .words-fit .ensures) ∙ c .before .if1 .taken) (c .before .before .before .loop-test .taken) (c .before .before .before .before .before .before .before .before .before .before .pre))
+word-at-requires-2 c κs =
+    let start = c .before .before .before .before .before .before .before .before .before .before in
+    omega (arith, fit-inside _ _ (sym (c .before .before .words-fit .ensures) ∙ c .before .if1 .taken) (c .before .before .before .loop-test .taken) (start .pre))
 
 of-entry-requires : tie.Need-of-entry-requires Inv-loop μ-loop
 of-entry-requires c κs = search needs
@@ -51,7 +60,11 @@ is-at-requires : tie.Need-is-at-requires Inv-loop μ-loop
 is-at-requires c κs = search needs
 
 returns : tie.Need-returns Inv-loop μ-loop
-returns c = leads-back (c .before .before .before .before .before .before .before .before .before .loop .inv) _ (own-walk _ _ _ _ _ _ _ _ (c .before .before .before .before .before .word-at .ensures) (c .before .before .before .before .word-at2 .ensures) (c .before .before .before .of-entry .ensures) (c .before .before .resolve-in .ensures)) (omega arith) (sym (c .before .before .before .before .before .before .before .words-fit .ensures) ∙ c .before .before .before .before .before .before .if1 .taken) (sym (c .before .is-at .ensures) ∙ c .if2 .taken)
+returns c =
+    let at-if = c .before .before .before .before .before .before in
+    let at-words-fit = c .before .before .before .before .before .before .before in
+    let at-loop = c .before .before .before .before .before .before .before .before .before in
+    leads-back (at-loop .loop .inv) _ (own-walk _ _ _ _ _ _ _ _ (c .before .before .before .before .before .word-at .ensures) (c .before .before .before .before .word-at2 .ensures) (c .before .before .before .of-entry .ensures) (c .before .before .resolve-in .ensures)) (omega arith) (sym (at-words-fit .words-fit .ensures) ∙ at-if .if1 .taken) (sym (c .before .is-at .ensures) ∙ c .if2 .taken)
 
 add-next-pair : tie.Need-add-next-pair Inv-loop μ-loop
 add-next-pair c = search needs
@@ -69,7 +82,9 @@ refuse-requires : tie.Need-refuse-requires Inv-loop μ-loop
 refuse-requires c κs = search needs
 
 returns-2 : tie.Need-returns-2 Inv-loop μ-loop
-returns-2 c = search-ends (c .before .before .loop .inv) (c .before .before .before .before .before .before .before .before .pre) (c .before .loop-test .left) _ (c .refuse .ensures)
+returns-2 c =
+    let start = c .before .before .before .before .before .before .before .before in
+    search-ends (c .before .before .loop .inv) (start .pre) (c .before .loop-test .left) _ (c .refuse .ensures)
 
 pub search-spec : {M : Type 1} → statement M
 search-spec =

@@ -44,7 +44,9 @@ same-length : tie.Need-same-length
 same-length c = search needs
 
 returns : tie.Need-returns
-returns c = rw (c .refuse .ensures) (refused-search _ _ _ (refused-case _ _ _ _ _ (c .before .before .before .before .before .before .open-case .ensures) (c .before .before .refusal .given .1)))
+returns c =
+    let at-open-case = c .before .before .before .before .before .before in
+    rw (c .refuse .ensures) (refused-search _ _ _ (refused-case _ _ _ _ _ (at-open-case .open-case .ensures) (c .before .before .refusal .given .1)))
 
 same-length-2 : tie.Need-same-length-2
 same-length-2 c = search needs

@@ -1,3 +1,4 @@
+-- Each test of the code is a test of the definition, in the same order.
 use denote.Ref.{now}
 use mathlib.Core.Path.{sym}
 use native.Mathlib.Omega.{arith}

@@ -1,3 +1,4 @@
+-- Zeros laid one by one, as many as there is room for.
 use native.Mathlib.Omega.{arith}
 use borrow.Author.Needs.{needs}
 use Prim.Native.Nat.{_-_, _+_}

@@ -1,3 +1,4 @@
+-- Bytes laid one by one, as many as there is room for.
 use native.Mathlib.Omega.{arith}
 use borrow.Author.Needs.{needs}
 use Prim.Native.Nat.{_-_, _+_}
@@ -26,7 +27,9 @@ add-k : tie.Need-add-k Inv-loop μ-loop
 add-k c = omega (arith, c .before .before .room .ensures .most, c .before .before .before .before .before .pre)
 
 shared-slice-read-out : tie.Need-shared-slice-read-out Inv-loop μ-loop
-shared-slice-read-out c = omega (arith, c .before .before .before .room .ensures .most, c .before .before .before .before .before .before .pre)
+shared-slice-read-out c =
+    let start = c .before .before .before .before .before .before in
+    omega (arith, c .before .before .before .room .ensures .most, start .pre)
 
 slice-write-out : tie.Need-slice-write-out Inv-loop μ-loop
 slice-write-out c = omega (arith, c .before .before .before .room .ensures .fits (λ z. omega (arith, z)), laying-long (c .before .before .loop .inv))
@@ -38,7 +41,9 @@ loop-less : tie.Need-loop-less Inv-loop μ-loop
 loop-less c = search needs
 
 loop-again : tie.Need-loop-again Inv-loop μ-loop
-loop-again c = laying-next (c .before .before .loop .inv) (c .before .loop-test .taken) (omega (arith, length-drop (c .before .before .before .before .before .before .args .from) (c .before .before .before .before .before .before .args .src .now), c .before .before .before .room .ensures .most, c .before .before .before .before .before .before .pre)) (getD (c .before .before .before .before .before .before .args .src .now) (c .before .before .before .before .before .before .args .from + c .before .before .loop .j) 0) (byte-at (c .before .before .before .before .before .before .args .src .now) (c .before .before .before .before .before .before .args .from) (c .before .before .loop .j))
+loop-again c =
+    let start = c .before .before .before .before .before .before in
+    laying-next (c .before .before .loop .inv) (c .before .loop-test .taken) (omega (arith, length-drop (start .args .from) (start .args .src .now), c .before .before .before .room .ensures .most, start .pre)) (getD (start .args .src .now) (start .args .from + c .before .before .loop .j) 0) (byte-at (start .args .src .now) (start .args .from) (c .before .before .loop .j))
 
 same-length : tie.Need-same-length Inv-loop μ-loop
 same-length c = laying-long (c .before .loop .inv)

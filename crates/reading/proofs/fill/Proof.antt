@@ -48,7 +48,9 @@ enum-known-refusal : tie.Need-enum-known-refusal Inv-loop μ-loop
 enum-known-refusal c = search needs
 
 same-length-2 : tie.Need-same-length-2 Inv-loop μ-loop
-same-length-2 c = fills-long (c .before .before .before .before .before .fill-page .ensures) ∙ filling-long (c .before .before .before .before .before .before .before .before .before .before .loop .inv)
+same-length-2 c =
+    let at-loop = c .before .before .before .before .before .before .before .before .before .before in
+    fills-long (c .before .before .before .before .before .fill-page .ensures) ∙ filling-long (at-loop .loop .inv)
 
 returns-2 : tie.Need-returns-2 Inv-loop μ-loop
 returns-2 c =
@@ -64,7 +66,9 @@ any-of-requires : tie.Need-any-of-requires Inv-loop μ-loop
 any-of-requires c κs = search needs
 
 add-i : tie.Need-add-i Inv-loop μ-loop
-add-i c = omega (arith, c .before .before .before .before .before .before .before .before .smaller .ensures .1 .0)
+add-i c =
+    let at-smaller = c .before .before .before .before .before .before .before .before in
+    omega (arith, at-smaller .smaller .ensures .1 .0)
 
 loop-less : tie.Need-loop-less Inv-loop μ-loop
 loop-less c =
@@ -76,11 +80,12 @@ loop-less c =
 loop-again : tie.Need-loop-again Inv-loop μ-loop
 loop-again c =
     let at-piece = c .before .before .before .before .before .before .before .before in
+    let at-fill-page = c .before .before .before .before .before .before in
     let in-loop = at-piece .before .before in
     let piece = at-piece .smaller .ensures in
     let args = in-loop .before .before .before .before .before .before .args in
     rw (c .any-of .ensures)
-    (page-laid (in-loop .before .loop .inv) _ (some-piece _ _ _ _ (in-loop .loop-test .taken) (piece .1 .1)) (piece .1 .0) (page-piece _ _ (piece .0)) _ _ (c .before .before .before .before .before .before .fill-page .ensures) _ (c .before .before .z .given .1)
+    (page-laid (in-loop .before .loop .inv) _ (some-piece _ _ _ _ (in-loop .loop-test .taken) (piece .1 .1)) (piece .1 .0) (page-piece _ _ (piece .0)) _ _ (at-fill-page .fill-page .ensures) _ (c .before .before .z .given .1)
     (piece-at (now (args .rows)) (args .space) (now (args .image)) (now (args .pagefile)) _ _ (page-piece _ _ (piece .0))))
 
 same-length-3 : tie.Need-same-length-3 Inv-loop μ-loop

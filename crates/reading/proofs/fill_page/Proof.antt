@@ -8,7 +8,9 @@ resolve-in-requires : tie.Need-resolve-in-requires
 resolve-in-requires c κs = search needs
 
 lay-requires : tie.Need-lay-requires
-lay-requires c κs = piece-inside _ _ _ _ _ _ _ (c .before .resolve-in .ensures) (c .before .before .before .before .before .before .pre)
+lay-requires c κs =
+    let start = c .before .before .before .before .before .before in
+    piece-inside _ _ _ _ _ _ _ (c .before .resolve-in .ensures) (start .pre)
 
 same-length : tie.Need-same-length
 same-length c = search needs

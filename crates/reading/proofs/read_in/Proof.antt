@@ -1,3 +1,4 @@
+-- The first pass has no room to write in; the second lays what the first found.
 use lib.ListN.{length-take}
 use native.Mathlib.Omega.{arith}
 use Rattle.reading.proofs.TwoPasses.{refused-read, done-read}
@@ -33,13 +34,18 @@ same-length : tie.Need-same-length
 same-length c = search needs
 
 returns : tie.Need-returns
-returns c = refused-read _ _ _ _ _ (c .before .before .before .before .before .before .fill .ensures) _ (c .before .before .refusal .given .1) _ (c .refuse .ensures)
+returns c =
+    let at-fill = c .before .before .before .before .before .before in
+    refused-read _ _ _ _ _ (at-fill .fill .ensures) _ (c .before .before .refusal .given .1) _ (c .refuse .ensures)
 
 same-length-2 : tie.Need-same-length-2
 same-length-2 c = search needs
 
 returns-2 : tie.Need-returns-2
-returns-2 c = done-read _ _ _ _ _ (c .before .before .before .before .before .before .before .before .before .before .fill .ensures) _ (c .before .before .before .before .before .before .zeros .given .1) _ _ (c .before .before .before .fill2 .ensures) _ (c .done .ensures)
+returns-2 c =
+    let at-zeros = c .before .before .before .before .before .before in
+    let at-fill = c .before .before .before .before .before .before .before .before .before .before in
+    done-read _ _ _ _ _ (at-fill .fill .ensures) _ (at-zeros .zeros .given .1) _ _ (c .before .before .before .fill2 .ensures) _ (c .done .ensures)
 
 pub read-in-spec : {M : Type 1} → statement M
 read-in-spec =

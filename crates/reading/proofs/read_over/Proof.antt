@@ -53,7 +53,9 @@ same-length-2 : tie.Need-same-length-2
 same-length-2 c = search needs
 
 returns-2 : tie.Need-returns-2
-returns-2 c = refused-case-read _ _ _ _ _ (refused-case _ _ _ _ _ (c .before .before .before .before .before .before .open-case .ensures) (c .before .before .refusal .given .1)) _ (c .refuse .ensures)
+returns-2 c =
+    let at-open-case = c .before .before .before .before .before .before in
+    refused-case-read _ _ _ _ _ (refused-case _ _ _ _ _ (at-open-case .open-case .ensures) (c .before .before .refusal .given .1)) _ (c .refuse .ensures)
 
 same-length-3 : tie.Need-same-length-3
 same-length-3 c = search needs
