@@ -16,7 +16,9 @@ slice-aggregate-copy : tie.Need-slice-aggregate-copy
 slice-aggregate-copy c = search needs
 
 copy-requires : tie.Need-copy-requires
-copy-requires c κs = omega (arith, few-digits _ _ (c .before .before .decimal .ensures .1 .0) (c .before .before .before .before .before .fits .n .fits), c .before .before .decimal .ensures .0 .1, c .before .before .before .before .before .pre)
+copy-requires c κs =
+    omega
+    (arith, few-digits _ _ (c .before .before .decimal .ensures .1 .0) (c .before .before .before .before .before .fits .n .fits), c .before .before .decimal .ensures .0 .1, c .before .before .before .before .before .pre)
 
 add-end : tie.Need-add-end
 add-end c =

@@ -42,7 +42,8 @@ returns-6 c =
     let at-count = at-prev .before .before .before .before in
     let given = at-count .before .before .before .before .args in
     let next = c .before .page-after .ensures in
-    same-code (given .left) (given .prev) (given .e) (at-count .before .before .if1 .left) (at-count .if2 .left) (at-prev .before .before .if3 .left) (at-prev .if4 .left) (c .before .before .if5 .left) _ next
+    same-code (given .left) (given .prev) (given .e) (at-count .before .before .if1 .left) (at-count .if2 .left) (at-prev .before .before .if3 .left) (at-prev .if4 .left)
+    (c .before .before .if5 .left) _ next
 
 pub is-sound-spec : {M : Type 1} → statement M
 is-sound-spec =

@@ -16,7 +16,10 @@ abbrev μ-loop : tie.MeasureT-loop
 μ-loop rows image pagefile directory head room out₀ node₀ count₀ out node count = 4096 - count
 
 loop-holds : tie.Need-loop-holds Inv-loop μ-loop
-loop-holds c = following-none (rowsWorld (now (c .before .before .before .before .args .rows)) (c .before .before .before .before .args .space) (now (c .before .before .before .before .args .image)) (now (c .before .before .before .before .args .pagefile))) _ _ _ (c .before .before .before .before .pre)
+loop-holds c =
+    following-none
+    (rowsWorld (now (c .before .before .before .before .args .rows)) (c .before .before .before .before .args .space) (now (c .before .before .before .before .args .image)) (now (c .before .before .before .before .args .pagefile))) _ _ _
+    (c .before .before .before .before .pre)
 
 next-node-requires : tie.Need-next-node-requires Inv-loop μ-loop
 next-node-requires c κs = c .before .loop .inv .aligned
@@ -28,7 +31,9 @@ same-length : tie.Need-same-length Inv-loop μ-loop
 same-length c = following-long (c .before .before .before .before .before .loop .inv)
 
 returns : tie.Need-returns Inv-loop μ-loop
-returns c = link-broken (c .before .before .before .before .before .loop .inv) (c .before .before .before .before .loop-test .taken) _ (sym (c .before .before .before .next-node .ensures) ∙ c .before .refusal .given .1)
+returns c =
+    link-broken (c .before .before .before .before .before .loop .inv) (c .before .before .before .before .loop-test .taken) _
+    (sym (c .before .before .before .next-node .ensures) ∙ c .before .refusal .given .1)
 
 enum-known-next : tie.Need-enum-known-next Inv-loop μ-loop
 enum-known-next c = search needs
@@ -41,7 +46,8 @@ same-length-2 c =
 returns-2 : tie.Need-returns-2 Inv-loop μ-loop
 returns-2 c =
     let at-loop = c .before .before .before .before .before .before in
-    back-at-head (at-loop .loop .inv) (c .before .before .before .before .before .loop-test .taken) _ (sym (c .before .before .before .before .next-node .ensures) ∙ c .before .before .next .given .1) (c .if1 .taken)
+    back-at-head (at-loop .loop .inv) (c .before .before .before .before .before .loop-test .taken) _
+    (sym (c .before .before .before .before .next-node .ensures) ∙ c .before .before .next .given .1) (c .if1 .taken)
 
 same-length-3 : tie.Need-same-length-3 Inv-loop μ-loop
 same-length-3 c =
@@ -52,7 +58,8 @@ returns-3 : tie.Need-returns-3 Inv-loop μ-loop
 returns-3 c =
     let at-loop-test = c .before .before .before .before .before .before in
     let at-loop = c .before .before .before .before .before .before .before in
-    no-room (at-loop .loop .inv) (at-loop-test .loop-test .taken) _ (sym (c .before .before .before .before .before .next-node .ensures) ∙ c .before .before .before .next .given .1) (c .before .if1 .left) (c .if2 .taken)
+    no-room (at-loop .loop .inv) (at-loop-test .loop-test .taken) _
+    (sym (c .before .before .before .before .before .next-node .ensures) ∙ c .before .before .before .next .given .1) (c .before .if1 .left) (c .if2 .taken)
 
 put-number-requires : tie.Need-put-number-requires Inv-loop μ-loop
 put-number-requires c κs = search needs
@@ -73,7 +80,8 @@ loop-again c =
     let at-next-node = c .before .before .before .before .before .before .before .before .before in
     let at-loop-test = c .before .before .before .before .before .before .before .before .before .before in
     let at-loop = c .before .before .before .before .before .before .before .before .before .before .before in
-    node-listed (at-loop .loop .inv) (at-loop-test .loop-test .taken) _ (sym (at-next-node .next-node .ensures) ∙ at-next .next .given .1) (c .before .before .before .before .before .if1 .left) (c .before .before .before .before .if2 .left) _ (c .before .before .put-number .ensures)
+    node-listed (at-loop .loop .inv) (at-loop-test .loop-test .taken) _ (sym (at-next-node .next-node .ensures) ∙ at-next .next .given .1)
+    (c .before .before .before .before .before .if1 .left) (c .before .before .before .before .if2 .left) _ (c .before .before .put-number .ensures)
 
 next-node-requires-2 : tie.Need-next-node-requires-2 Inv-loop μ-loop
 next-node-requires-2 c κs = c .before .loop .inv .aligned

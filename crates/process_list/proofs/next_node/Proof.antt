@@ -30,7 +30,8 @@ returns-2 : tie.Need-returns-2
 returns-2 c =
     let at-next = c .before .before .before .before .before .before .before in
     let at-read-link = c .before .before .before .before .before .before .before .before .before in
-    back-differs _ _ _ (sym (at-read-link .read-link .ensures) ∙ at-next .next .given .1) (c .before .before .before .before .before .if1 .left) _ (sym (c .before .before .before .before .back-link .ensures) ∙ c .before .before .back .given .1) (c .if2 .taken)
+    back-differs _ _ _ (sym (at-read-link .read-link .ensures) ∙ at-next .next .given .1) (c .before .before .before .before .before .if1 .left) _
+    (sym (c .before .before .before .before .back-link .ensures) ∙ c .before .before .back .given .1) (c .if2 .taken)
 
 returns-3 : tie.Need-returns-3
 returns-3 c = forward-broken _ _ _ (sym (c .before .before .before .read-link .ensures) ∙ c .before .refusal .given .1)
@@ -39,13 +40,15 @@ returns-4 : tie.Need-returns-4
 returns-4 c =
     let at-next = c .before .before .before .before .before .before in
     let at-read-link = c .before .before .before .before .before .before .before .before in
-    back-broken _ _ _ (sym (at-read-link .read-link .ensures) ∙ at-next .next .given .1) (c .before .before .before .before .if1 .left) _ (sym (c .before .before .before .back-link .ensures) ∙ c .before .refusal2 .given .1)
+    back-broken _ _ _ (sym (at-read-link .read-link .ensures) ∙ at-next .next .given .1) (c .before .before .before .before .if1 .left) _
+    (sym (c .before .before .before .back-link .ensures) ∙ c .before .refusal2 .given .1)
 
 returns-5 : tie.Need-returns-5
 returns-5 c =
     let at-next = c .before .before .before .before .before .before .before in
     let at-read-link = c .before .before .before .before .before .before .before .before .before in
-    back-same _ _ _ (sym (at-read-link .read-link .ensures) ∙ at-next .next .given .1) (c .before .before .before .before .before .if1 .left) _ (sym (c .before .before .before .before .back-link .ensures) ∙ c .before .before .back .given .1) (c .if2 .left)
+    back-same _ _ _ (sym (at-read-link .read-link .ensures) ∙ at-next .next .given .1) (c .before .before .before .before .before .if1 .left) _
+    (sym (c .before .before .before .before .back-link .ensures) ∙ c .before .before .back .given .1) (c .if2 .left)
 
 pub next-node-spec : {M : Type 1} → statement M
 next-node-spec =

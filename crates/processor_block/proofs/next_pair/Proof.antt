@@ -50,7 +50,9 @@ loop-less : tie.Need-loop-less Inv-loop μ-loop
 loop-less c = search needs
 
 loop-again : tie.Need-loop-again Inv-loop μ-loop
-loop-again c = one-more (c .before .before .before .before .before .loop .inv) (not-pair _ _ _ _ (c .before .before .before .word-at .ensures) (c .before .before .word-at2 .ensures) _ (c .before .wrapping-add-u64 .ensures) (omega arith) (c .if2 .left))
+loop-again c =
+    one-more (c .before .before .before .before .before .loop .inv)
+    (not-pair _ _ _ _ (c .before .before .before .word-at .ensures) (c .before .before .word-at2 .ensures) _ (c .before .wrapping-add-u64 .ensures) (omega arith) (c .if2 .left))
 
 returns-3 : tie.Need-returns-3 Inv-loop μ-loop
 returns-3 c = record { onward = c .before .loop .inv .onward; none = c .before .loop .inv .none }

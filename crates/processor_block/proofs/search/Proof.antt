@@ -64,7 +64,9 @@ returns c =
     let at-if = c .before .before .before .before .before .before in
     let at-words-fit = c .before .before .before .before .before .before .before in
     let at-loop = c .before .before .before .before .before .before .before .before .before in
-    leads-back (at-loop .loop .inv) _ (own-walk _ _ _ _ _ _ _ _ (c .before .before .before .before .before .word-at .ensures) (c .before .before .before .before .word-at2 .ensures) (c .before .before .before .of-entry .ensures) (c .before .before .resolve-in .ensures)) (omega arith) (sym (at-words-fit .words-fit .ensures) ∙ at-if .if1 .taken) (sym (c .before .is-at .ensures) ∙ c .if2 .taken)
+    leads-back (at-loop .loop .inv) _
+    (own-walk _ _ _ _ _ _ _ _ (c .before .before .before .before .before .word-at .ensures) (c .before .before .before .before .word-at2 .ensures) (c .before .before .before .of-entry .ensures) (c .before .before .resolve-in .ensures))
+    (omega arith) (sym (at-words-fit .words-fit .ensures) ∙ at-if .if1 .taken) (sym (c .before .is-at .ensures) ∙ c .if2 .taken)
 
 add-next-pair : tie.Need-add-next-pair Inv-loop μ-loop
 add-next-pair c = search needs
@@ -76,7 +78,10 @@ loop-less : tie.Need-loop-less Inv-loop μ-loop
 loop-less c = omega (arith, c .next-pair2 .ensures .onward)
 
 loop-again : tie.Need-loop-again Inv-loop μ-loop
-loop-again c = none-between (⊎-elim (λ w. leads-elsewhere (c .before .before .before .before .loop .inv) _ (own-walk _ _ _ _ _ _ _ _ (w .1 .ensures) (w .2 .ensures) (w .3 .ensures) (w .4 .ensures)) (sym (w .5 .ensures) ∙ w .6 .left)) (λ w. words-differ (c .before .before .before .before .loop .inv) (sym (c .before .before .words-fit .ensures) ∙ w .left)) (c .before .if1 .came)) (c .next-pair2 .ensures)
+loop-again c =
+    none-between
+    (⊎-elim (λ w. leads-elsewhere (c .before .before .before .before .loop .inv) _ (own-walk _ _ _ _ _ _ _ _ (w .1 .ensures) (w .2 .ensures) (w .3 .ensures) (w .4 .ensures)) (sym (w .5 .ensures) ∙ w .6 .left)) (λ w. words-differ (c .before .before .before .before .loop .inv) (sym (c .before .before .words-fit .ensures) ∙ w .left)) (c .before .if1 .came))
+    (c .next-pair2 .ensures)
 
 refuse-requires : tie.Need-refuse-requires Inv-loop μ-loop
 refuse-requires c κs = search needs

@@ -41,7 +41,9 @@ word-at-requires-3 : tie.Need-word-at-requires-3
 word-at-requires-3 c κs = search needs
 
 returns-5 : tie.Need-returns-5
-returns-5 c = all-fit _ _ _ _ (c .before .before .before .before .before .word-at .ensures) (c .before .before .before .word-at2 .ensures) (omega arith) (omega arith) (omega arith) (omega arith) _ (c .word-at3 .ensures)
+returns-5 c =
+    all-fit _ _ _ _ (c .before .before .before .before .before .word-at .ensures) (c .before .before .before .word-at2 .ensures) (omega arith) (omega arith) (omega arith)
+    (omega arith) _ (c .word-at3 .ensures)
 
 pub words-fit-spec : {M : Type 1} → statement M
 words-fit-spec =

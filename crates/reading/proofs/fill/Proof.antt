@@ -57,7 +57,8 @@ returns-2 c =
     let at-piece = c .before .before .before .before .before .before .before in
     let in-loop = at-piece .before .before in
     let piece = at-piece .smaller .ensures in
-    page-refused (in-loop .before .loop .inv) _ (some-piece _ _ _ _ (in-loop .loop-test .taken) (piece .1 .1)) (piece .1 .0) (page-piece _ _ (piece .0)) _ _ (c .before .before .before .before .before .fill-page .ensures) _ (c .before .refusal .given .1)
+    page-refused (in-loop .before .loop .inv) _ (some-piece _ _ _ _ (in-loop .loop-test .taken) (piece .1 .1)) (piece .1 .0) (page-piece _ _ (piece .0)) _ _
+    (c .before .before .before .before .before .fill-page .ensures) _ (c .before .refusal .given .1)
 
 enum-known-z : tie.Need-enum-known-z Inv-loop μ-loop
 enum-known-z c = search needs

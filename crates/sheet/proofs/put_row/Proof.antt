@@ -46,7 +46,8 @@ returns c =
     let at-second = c .before .before .before .before .before .before in
     let at-first = at-second .before .before .before .before .before in
     let at-start = at-first .before .before .before .before .before in
-    row-stored (now (at-start .args .rows)) _ _ _ (at-start .args .i) (at-start .args .pages) _ (at-start .args .run) (at-first .before .before .number .ensures) (at-first .put-number .ensures) (at-second .put-number2 .ensures) (c .before .before .put-number3 .ensures)
+    row-stored (now (at-start .args .rows)) _ _ _ (at-start .args .i) (at-start .args .pages) _ (at-start .args .run) (at-first .before .before .number .ensures)
+    (at-first .put-number .ensures) (at-second .put-number2 .ensures) (c .before .before .put-number3 .ensures)
 
 pub put-row-spec : {M : Type 1} → statement M
 put-row-spec =

@@ -30,7 +30,8 @@ returns : tie.Need-returns
 returns c =
     let at-runs = c .before .before .before .before .before .before in
     let at-header = at-runs .before .before .before in
-    trailing _ _ _ _ _ _ _ (fields-got _ _ _ _ (at-header .before .before .read-header .ensures) (at-header .header .given .1)) _ _ (runs-found _ _ _ _ _ _ (at-runs .read-runs .ensures) (c .before .before .pages .given .1)) (c .if1 .taken)
+    trailing _ _ _ _ _ _ _ (fields-got _ _ _ _ (at-header .before .before .read-header .ensures) (at-header .header .given .1)) _ _
+    (runs-found _ _ _ _ _ _ (at-runs .read-runs .ensures) (c .before .before .pages .given .1)) (c .if1 .taken)
 
 check-lengths-requires : tie.Need-check-lengths-requires
 check-lengths-requires c κs =
@@ -47,7 +48,8 @@ returns-3 : tie.Need-returns-3
 returns-3 c =
     let at-runs = c .before .before .before .before .before in
     let at-header = at-runs .before .before .before in
-    no-runs _ _ _ _ _ _ _ (fields-got _ _ _ _ (at-header .before .before .read-header .ensures) (at-header .header .given .1)) _ (no-runs-found _ _ _ _ _ (at-runs .read-runs .ensures) (c .before .refusal2 .given .1))
+    no-runs _ _ _ _ _ _ _ (fields-got _ _ _ _ (at-header .before .before .read-header .ensures) (at-header .header .given .1)) _
+    (no-runs-found _ _ _ _ _ (at-runs .read-runs .ensures) (c .before .refusal2 .given .1))
 
 same-length-3 : tie.Need-same-length-3
 same-length-3 c = search needs
