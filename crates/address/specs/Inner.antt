@@ -9,9 +9,9 @@ use Rattle.case.specs.Case.{Case, inCase}
 use Rattle.case.specs.Answer.{GroundedAt}
 
 -- a refused case is a refused place, and no entry is read
-abbrev pub walkedIn : Case → ℕ → Walked
-walkedIn c a = inCase c (λ r. stop (Refused r)) (λ w. resolveOf 3 w a)
+abbrev pub caseWalk : Case → ℕ → Walked
+caseWalk c a = inCase c (λ r. stop (Refused r)) (λ w. resolveOf 3 w a)
 
 pub record Finds (c : Case) (a : ℕ) (r : Resolved) : Type 0 where
-  pub same : r ≡ resolvedOf (walkedIn c a)
+  pub same : r ≡ resolvedOf (caseWalk c a)
   pub grounded : GroundedAt c a

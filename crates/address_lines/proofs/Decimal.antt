@@ -7,22 +7,22 @@ use native.Mathlib.Omega.{arith}
 use borrow.Author.Tests.{lt-ltb, le-ltb}
 use Rattle.base.proofs.Test.{Test, test, below, above}
 use Rattle.io.specs.Digits.{digits, glyph, Fewest}
-use Rattle.address_lines.specs.Line.{digit, decimalIn, decimalOf}
+use Rattle.address_lines.specs.Line.{digit, decimalSteps, decimalOf}
 
-in-small : (m n : ℕ) → n < 10 → decimalIn m n ≡ digit n ∷ []
+in-small : (m n : ℕ) → n < 10 → decimalSteps m n ≡ digit n ∷ []
 in-small zero n h = refl
 in-small (suc m) n h = rw (lt-ltb n 10 h)
 
-in-more : (m n : ℕ) → 10 ≤ n → decimalIn (suc m) n ≡ decimalIn m (n / 10) ++ digit (n % 10) ∷ []
+in-more : (m n : ℕ) → 10 ≤ n → decimalSteps (suc m) n ≡ decimalSteps m (n / 10) ++ digit (n % 10) ∷ []
 in-more m n h = rw (le-ltb n 10 h)
 
 -- more steps than n change nothing
-in-enough : (m k n : ℕ) → n ≤ m → n ≤ k → decimalIn m n ≡ decimalIn k n
+in-enough : (m k n : ℕ) → n ≤ m → n ≤ k → decimalSteps m n ≡ decimalSteps k n
 in-enough zero k n h g = sym (in-small k n (omega arith))
 in-enough (suc m) zero n h g = in-small (suc m) n (omega arith)
 in-enough (suc m) (suc k) n h g = go (test n 10) (λ h′ g′. in-enough m k (n / 10) h′ g′)
   where
-    go : Test n 10 → (n / 10 ≤ m → n / 10 ≤ k → decimalIn m (n / 10) ≡ decimalIn k (n / 10)) → decimalIn (suc m) n ≡ decimalIn (suc k) n
+    go : Test n 10 → (n / 10 ≤ m → n / 10 ≤ k → decimalSteps m (n / 10) ≡ decimalSteps k (n / 10)) → decimalSteps (suc m) n ≡ decimalSteps (suc k) n
     go (below s) ih = in-small (suc m) n s ∙ sym (in-small (suc k) n s)
     go (above b) ih = rw (in-more m n b, in-more k n b, ih (omega arith) (omega arith))
 

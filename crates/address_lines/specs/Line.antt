@@ -12,15 +12,15 @@ abbrev pub digit : ℕ → ℕ
 digit d = 48 + d
 
 -- a number in decimal: below 10 its digit, else the decimal form of a tenth of it, then its last digit; `most` bounds the steps
-abbrev pub decimalIn : ℕ → ℕ → List ℕ
-decimalIn zero n = digit n ∷ []
-decimalIn (suc most) n =
+abbrev pub decimalSteps : ℕ → ℕ → List ℕ
+decimalSteps zero n = digit n ∷ []
+decimalSteps (suc most) n =
     if ltb n 10 then digit n ∷ [] else
-    decimalIn most (n / 10) ++ digit (n % 10) ∷ []
+    decimalSteps most (n / 10) ++ digit (n % 10) ∷ []
 
 -- n steps are always enough: `decimal-small` and `decimal-more` have no bound
 unfoldable pub decimalOf : ℕ → List ℕ
-decimalOf n = decimalIn n n
+decimalOf n = decimalSteps n n
 
 -- a number in decimal, and the byte after it
 abbrev pub fieldOf : ℕ → ℕ → List ℕ

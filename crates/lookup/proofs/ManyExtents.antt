@@ -19,7 +19,7 @@ use Rattle.map_format.specs.Inner.{FieldsInLimits}
 use Rattle.map_format.specs.declared.Extent.{Extent}
 use Rattle.map_format.specs.declared.MappedPage.{MappedPage}
 use Rattle.map_format.proofs.OneExtent.{WithPagesLeft, extent-keeps}
-use Rattle.lookup.specs.Inner.{noteOf, pageIn}
+use Rattle.lookup.specs.Inner.{noteOf, pageOfRead}
 use Rattle.lookup.specs.declared.PageRead.{PageRead}
 use Rattle.lookup.specs.declared.PageRead.the-variants.{Answered, Refused}
 
@@ -48,7 +48,7 @@ abbrev readAfter : List ℕ → MappedPage → ℕ → ℕ → Read (List Extent
 readAfter s old done k (got es at) = if eqb at (length s) then Answered (answerAfter old done k es) else Refused TrailingBytes
 readAfter s old done k (refused r) = Refused r
 
-page-none : (s : List ℕ) (old : MappedPage) (k : ℕ) (d : Read (List Extent)) → pageIn s k d ≡ readAfter s old 0 k d
+page-none : (s : List ℕ) (old : MappedPage) (k : ℕ) (d : Read (List Extent)) → pageOfRead s k d ≡ readAfter s old 0 k d
 page-none s old k (got es at) = rw (le-ltb k 0 (omega arith), sub-zero k)
 page-none s old k (refused r) = refl
 
@@ -108,7 +108,7 @@ pub record Looking (s : List ℕ) (from count k at left : ℕ) (prev : Extent) (
   pub part : left ≤ count
   pub limits : FieldsInLimits prev
   pub low : old .file < 2 ^ 36
-  pub same : pageIn s k (extentsFrom count count noExtent s from) ≡ readAfter s old (count - left) k (extentsFrom fuel left prev s at)
+  pub same : pageOfRead s k (extentsFrom count count noExtent s from) ≡ readAfter s old (count - left) k (extentsFrom fuel left prev s at)
 
 pub starts : (s : List ℕ) (from count k : ℕ) → Looking s from count k from count noExtent (mappedPage 0 0)
 starts s from count k = record {
@@ -130,7 +130,7 @@ module _ {s : List ℕ} {from count k at left : ℕ} {prev : Extent} {old : Mapp
     one-left : q .fuel ≡ suc (q .fuel - 1)
     one-left = suc-pred (q .fuel) left h (q .enough)
 
-    pub no-extent-read : (r : Refusal) → extentFrom left prev s at ≡ refused r → Refused r ≡ pageIn s k (extentsFrom count count noExtent s from)
+    pub no-extent-read : (r : Refusal) → extentFrom left prev s at ≡ refused r → Refused r ≡ pageOfRead s k (extentsFrom count count noExtent s from)
     no-extent-read r w = sym (q .same ∙ rw one-left (ap (readAfter s old (count - left) k) (read-bad (q .fuel - 1) left prev s at (λ z. omega arith) r w)))
 
     pub again : (e : Extent) (next : ℕ) → extentFrom left prev s at ≡ got e next → Looking s from count k next (left - e .pages) e (noteOf old (count - left) k e)
@@ -151,11 +151,11 @@ module _ {s : List ℕ} {from count k at left : ℕ} {prev : Extent} {old : Mapp
         }
 
   module _ (h : left ≤ 0) where
-    finished : pageIn s k (extentsFrom count count noExtent s from) ≡ readAfter s old (count - left) k (got [] at)
+    finished : pageOfRead s k (extentsFrom count count noExtent s from) ≡ readAfter s old (count - left) k (got [] at)
     finished = q .same ∙ ap (readAfter s old (count - left) k) (read-none (q .fuel) left prev s at (omega arith))
 
-    pub trailing : (at ≡ length s → ⊥) → Refused TrailingBytes ≡ pageIn s k (extentsFrom count count noExtent s from)
+    pub trailing : (at ≡ length s → ⊥) → Refused TrailingBytes ≡ pageOfRead s k (extentsFrom count count noExtent s from)
     trailing l = sym (finished ∙ rw (ne-eqb at (length s) l))
 
-    pub answered : at ≡ length s → k < count → Answered old ≡ pageIn s k (extentsFrom count count noExtent s from)
+    pub answered : at ≡ length s → k < count → Answered old ≡ pageOfRead s k (extentsFrom count count noExtent s from)
     answered l b = sym (finished ∙ rw (eq-eqb at (length s) l, lt-ltb k (count - left) (omega arith)))

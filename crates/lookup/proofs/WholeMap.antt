@@ -21,8 +21,8 @@ use Rattle.map_format.specs.declared.Extent.{Extent}
 use Rattle.map_format.specs.declared.Header.{Header}
 use Rattle.map_format.specs.declared.MappedPage.{MappedPage}
 use Rattle.map_format.proofs.HeaderFields.{header-range}
-use Rattle.lookup.specs.Call.{refusedLookup, answerAt, inRange, lookupIn, lookupOf}
-use Rattle.lookup.specs.Inner.{pageIn, FileBelow, askedOf, foundFor}
+use Rattle.lookup.specs.Call.{refusedLookup, answerAt, inRange, lookupRead, lookupOf}
+use Rattle.lookup.specs.Inner.{pageOfRead, FileBelow, askedOf, foundFor}
 use Rattle.lookup.specs.declared.Found.{Found}
 use Rattle.lookup.specs.declared.PageRead.{PageRead}
 use Rattle.lookup.specs.declared.PageRead.the-variants.{Answered, Refused}
@@ -41,24 +41,24 @@ page-asked a h es true = refl
 page-asked a h es false = refl
 
 module _ (s : List ℕ) (a : ℕ) (h : Header) where
-  refused-in : (k : ℕ) (d : Read (List Extent)) (q : Refusal) → pageIn s k d ≡ Refused q → refusedLookup q ≡ lookupIn a (mapRead h s d)
+  refused-in : (k : ℕ) (d : Read (List Extent)) (q : Refusal) → pageOfRead s k d ≡ Refused q → refusedLookup q ≡ lookupRead a (mapRead h s d)
   refused-in k (refused p) q e =
       let same : p ≡ q = cc in
       ap refusedLookup (sym same)
   refused-in k (got es i) q e = go (eqb i (length s)) e
     where
-      go : (b : Bool) → (if b then Answered (pageAt es k) else Refused TrailingBytes) ≡ Refused q → refusedLookup q ≡ lookupIn a (ending h es s i b)
+      go : (b : Bool) → (if b then Answered (pageAt es k) else Refused TrailingBytes) ≡ Refused q → refusedLookup q ≡ lookupRead a (ending h es s i b)
       go true w = absurd (let z : _≡_ {A = ℕ} 0 1 = cc in omega arith)
       go false w =
           let same : TrailingBytes ≡ q = cc in
           ap refusedLookup (sym same)
 
-  answered-in : (d : Read (List Extent)) (p : MappedPage) → pageIn s (askedOf h (virtualPageOf a)) d ≡ Answered p → foundFor h a p ≡ lookupIn a (mapRead h s d)
+  answered-in : (d : Read (List Extent)) (p : MappedPage) → pageOfRead s (askedOf h (virtualPageOf a)) d ≡ Answered p → foundFor h a p ≡ lookupRead a (mapRead h s d)
   unfolding foundFor askedOf
   answered-in (refused q) p e = absurd (let z : _≡_ {A = ℕ} 0 1 = cc in omega arith)
   answered-in (got es i) p e = go (eqb i (length s)) e
     where
-      go : (b : Bool) → (if b then Answered (pageAt es (askedOf h (virtualPageOf a))) else Refused TrailingBytes) ≡ Answered p → foundFor h a p ≡ lookupIn a (ending h es s i b)
+      go : (b : Bool) → (if b then Answered (pageAt es (askedOf h (virtualPageOf a))) else Refused TrailingBytes) ≡ Answered p → foundFor h a p ≡ lookupRead a (ending h es s i b)
       go true w =
           let same : pageAt es (askedOf h (virtualPageOf a)) ≡ p = cc in
           rw (← same) (ap (λ (z : Found). if not (canonical a) then refusedLookup NotCanonical else z) (page-asked a h es (inRange h (virtualPageOf a))))
@@ -87,7 +87,7 @@ module _ (s : List ℕ) (a : ℕ) where
     abbrev extents : Read (List Extent)
     extents = extentsFrom (h .count) (h .count) noExtent s at
 
-    map-read : lookupOf s a ≡ lookupIn a (mapRead h s extents)
+    map-read : lookupOf s a ≡ lookupRead a (mapRead h s extents)
     unfolding lookupOf mapFields
     map-read = rw e
 
@@ -95,11 +95,11 @@ module _ (s : List ℕ) (a : ℕ) where
       pub asked-count : k < h .count
       asked-count = rw ek (asked-below h (virtualPageOf a) (header-range s 0 h at e .some))
 
-      module _ (v : PageRead) (ev : v ≡ pageIn s k extents) where
+      module _ (v : PageRead) (ev : v ≡ pageOfRead s k extents) where
         pub no-extents : (q : Refusal) → v ≡ Refused q → refusedLookup q ≡ lookupOf s a
         no-extents q f = refused-in s a h k extents q (sym ev ∙ f) ∙ sym map-read
 
         pub looked-up : (p : MappedPage) → v ≡ Answered p → foundFor h a p ≡ lookupOf s a
         looked-up p f =
-            let w : pageIn s (askedOf h (virtualPageOf a)) extents ≡ Answered p = rw ek at (sym ev ∙ f) in
+            let w : pageOfRead s (askedOf h (virtualPageOf a)) extents ≡ Answered p = rw ek at (sym ev ∙ f) in
             answered-in s a h extents p w ∙ sym map-read

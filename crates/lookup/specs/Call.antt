@@ -28,13 +28,13 @@ answerAt a p = record { number = p .code; offset = if hasFilePage (p .code) then
 abbrev pub inRange : Header → VirtualPage → Bool
 inRange h page = leb (h .start .0) (page .0) && ltb (page .0) (h .start .0 + h .count)
 
-abbrev pub lookupIn : ℕ → Read Map → Found
-lookupIn a (refused r) = refusedLookup r
-lookupIn a (got m at) =
+abbrev pub lookupRead : ℕ → Read Map → Found
+lookupRead a (refused r) = refusedLookup r
+lookupRead a (got m at) =
     if not (canonical a) then refusedLookup NotCanonical else
     if inRange (m .header) (virtualPageOf a)
     then answerAt a (pageAt (m .extents) (virtualPageOf a .0 - m .header .start .0)) else
     refusedLookup OutsideMap
 
 unfoldable pub lookupOf : List ℕ → ℕ → Found
-lookupOf bytes a = lookupIn a (mapFields bytes 0)
+lookupOf bytes a = lookupRead a (mapFields bytes 0)

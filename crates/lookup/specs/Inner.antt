@@ -24,9 +24,9 @@ unfoldable pub noteOf : MappedPage → ℕ → ℕ → Extent → MappedPage
 noteOf old done k e = if leb done k && ltb (k - done) (e .pages) then mappedPage (e .code) (pageAfter (e .code) (k - done) (e .first)) else old
 
 -- page k of the extents that were read, if no byte stands after them
-abbrev pub pageIn : List ℕ → ℕ → Read (List Extent) → PageRead
-pageIn s k (got es at) = if eqb at (length s) then Answered (pageAt es k) else Refused TrailingBytes
-pageIn s k (refused r) = Refused r
+abbrev pub pageOfRead : List ℕ → ℕ → Read (List Extent) → PageRead
+pageOfRead s k (got es at) = if eqb at (length s) then Answered (pageAt es k) else Refused TrailingBytes
+pageOfRead s k (refused r) = Refused r
 
 abbrev pub FileBelow : PageRead → Type 0
 FileBelow (Answered p) = p .file < 2 ^ 36

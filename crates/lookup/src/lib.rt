@@ -13,7 +13,7 @@ ghost use Rattle.map_format.specs.Extents.{noExtent};
 ghost use Rattle.map_format.specs.Reading.{extentsFrom};
 ghost use Rattle.map_format.specs.Inner.{FieldsInLimits};
 ghost use Rattle.lookup.specs.Call.{refusedLookup, answerAt, inRange, lookupOf};
-ghost use Rattle.lookup.specs.Inner.{noteOf, pageIn, FileBelow, askedOf, foundFor};
+ghost use Rattle.lookup.specs.Inner.{noteOf, pageOfRead, FileBelow, askedOf, foundFor};
 
 // 01 "What the reader covers": the bytes of a page.
 const PAGE_BYTES: u64 = 0x1000;
@@ -110,7 +110,7 @@ fn is_in_range(header: Header, page: VirtualPage) -> bool
 // The answer of page k of `count` pages, whose extents stand from `from` to the end.
 fn read_page(s: &[u8], from: usize, count: u64, k: u64) -> PageRead
     requires { ⌜ k < count ⌝ }
-    ensures same { λ r. ⌜ r ≡ pageIn (now (s .entry)) k (extentsFrom count count noExtent (now (s .entry)) from) ⌝ }
+    ensures same { λ r. ⌜ r ≡ pageOfRead (now (s .entry)) k (extentsFrom count count noExtent (now (s .entry)) from) ⌝ }
     ensures low { λ r. ⌜ FileBelow r ⌝ }
 {
     let mut at = from;

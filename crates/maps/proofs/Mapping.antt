@@ -31,7 +31,7 @@ use Rattle.map_format.specs.declared.MappedPage.{MappedPage}
 use Rattle.map_format.proofs.Answers.{Mappable}
 use Rattle.map_format.proofs.Building.{emptyAt, taken-none, taken-then, taken-finish, header-length, room-empty, room-less, room-pushed}
 use Rattle.maps.specs.MapOf.{allowed, mappedPageOf, pagesOf, headerOf, mapOf}
-use Rattle.maps.specs.Call.{mapInWorld}
+use Rattle.maps.specs.Call.{mapOutcome}
 use Rattle.maps.proofs.Ranges.{allowed-range, in-range}
 
 -- an answer whose number is a code can stand in a map
@@ -116,13 +116,13 @@ module _ (w : World) (start count : ℕ) (old last : List ℕ) (r : ℕ) (p : Wr
   nothing : last ≡ []
   nothing = p .bytes ∙ sets-none 0 (mapOf w start count)
 
-  pub short-map : length (last ++ old) < r → (answer : Written) → answer ≡ notWritten MapBufferShort → record { answer = answer; buffer = last ++ old } ≡ mapInWorld w start count old
+  pub short-map : length (last ++ old) < r → (answer : Written) → answer ≡ notWritten MapBufferShort → record { answer = answer; buffer = last ++ old } ≡ mapOutcome w start count old
   short-map h answer g =
       let l : length old < length (mapOf w start count) = omega (arith, p .place, rw nothing at h) in
       rw (g, nothing, lt-ltb (length old) (length (mapOf w start count)) l)
 
   pub full-map : r ≤ length (last ++ old) → (r₂ : ℕ) (new : List ℕ) → Wrote (last ++ old) 0 (mapOf w start count) r₂ new
-      → record { answer = record { number = 0; length = r }; buffer = new } ≡ mapInWorld w start count old
+      → record { answer = record { number = 0; length = r }; buffer = new } ≡ mapOutcome w start count old
   full-map h r₂ new q =
       let l : length (mapOf w start count) ≤ length old = omega (arith, p .place, rw nothing at h) in
       let e : r ≡ length (mapOf w start count) = omega (arith, p .place) in

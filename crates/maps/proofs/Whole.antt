@@ -40,7 +40,7 @@ use Rattle.lookup.specs.Call.{answerAt, lookupOf}
 use Rattle.lookup.specs.declared.Found.{Found}
 use Rattle.maps.specs.MapOf.{allowed, mappedPageOf, pagesOf, headerOf, mapOf}
 use Rattle.maps.specs.Demand3.{walkAnswer, AnswersAsWalk, Fewest, Demand3}
-use Rattle.maps.specs.Call.{mapInWorld, mapCall, MapAnswer}
+use Rattle.maps.specs.Call.{mapOutcome, mapCall, MapAnswer}
 use Rattle.base.specs.declared.Written.{Written}
 use Rattle.base.specs.Written.{notWritten, written}
 use Rattle.maps.proofs.Ranges.{Allowed, allowed-range, in-range, start-in-half}
@@ -161,7 +161,7 @@ module _ (w : World) (sound : Sound w) (small : length (w .image) ≤ 2 ^ 48) (s
 
   -- ---- demand 3
 
-  pub demand3 : (old : List ℕ) → Demand3 w start count old (mapInWorld w start count old)
+  pub demand3 : (old : List ℕ) → Demand3 w start count old (mapOutcome w start count old)
   demand3 old = record {
     short = λ h. rw (lt-ltb (length old) (length (mapOf w start count)) h);
     written = λ h. rw (le-ltb (length old) (length (mapOf w start count)) h);
@@ -169,26 +169,26 @@ module _ (w : World) (sound : Sound w) (small : length (w .image) ≤ 2 ^ 48) (s
     fewest = λ e. least (test (length old) (length (mapOf w start count))) e;
   }
     where
-      refused : {A : Type 0} → length old < length (mapOf w start count) → mapInWorld w start count old .answer .number ≡ 0 → A
+      refused : {A : Type 0} → length old < length (mapOf w start count) → mapOutcome w start count old .answer .number ≡ 0 → A
       refused h e =
           let z : refusalNumber MapBufferShort ≡ 0 = rw (lt-ltb (length old) (length (mapOf w start count)) h) at e in
           absurd (omega (arith, z))
 
       -- the front of the buffer is the map
-      front : length (mapOf w start count) ≤ length old → take (mapInWorld w start count old .answer .length) (mapInWorld w start count old .buffer) ≡ mapOf w start count
+      front : length (mapOf w start count) ≤ length old → take (mapOutcome w start count old .answer .length) (mapOutcome w start count old .buffer) ≡ mapOf w start count
       front h = rw (
         le-ltb (length old) (length (mapOf w start count)) h,
         sets-eq (mapOf w start count) old 0 (omega arith),
         take-at (mapOf w start count) (drop (0 + length (mapOf w start count)) old) (length (mapOf w start count)) refl,
       )
 
-      least : Test (length old) (length (mapOf w start count)) → mapInWorld w start count old .answer .number ≡ 0
-          → Fewest w start count (mapFields (take (mapInWorld w start count old .answer .length) (mapInWorld w start count old .buffer)) 0)
+      least : Test (length old) (length (mapOf w start count)) → mapOutcome w start count old .answer .number ≡ 0
+          → Fewest w start count (mapFields (take (mapOutcome w start count old .answer .length) (mapOutcome w start count old .buffer)) 0)
       least (below h) e = refused h e
       least (above h) e = subst (λ (bs : List ℕ). Fewest w start count (mapFields bs 0)) (sym (front h)) map-fewest
 
-      go : Test (length old) (length (mapOf w start count)) → mapInWorld w start count old .answer .number ≡ 0 → (a : ℕ) → start ≤ a → a < start + 4096 * count
-          → lookupOf (take (mapInWorld w start count old .answer .length) (mapInWorld w start count old .buffer)) a ≡ walkAnswer w a
+      go : Test (length old) (length (mapOf w start count)) → mapOutcome w start count old .answer .number ≡ 0 → (a : ℕ) → start ≤ a → a < start + 4096 * count
+          → lookupOf (take (mapOutcome w start count old .answer .length) (mapOutcome w start count old .buffer)) a ≡ walkAnswer w a
       go (below h) e a l u = refused h e
       go (above h) e a l u = subst (λ (bs : List ℕ). lookupOf bs a ≡ walkAnswer w a) (sym (front h)) (map-answers a l u)
 
@@ -219,10 +219,10 @@ module _ (c : Case) where
       }
 
       pub mapped : allowed start count ≡ true → (r : Written) (new : List ℕ)
-          → record { answer = r; buffer = new } ≡ mapInWorld (rowsWorld (take n rows) space (c .image) (c .pagefile)) start count old → MapAnswer c start count old r new
+          → record { answer = r; buffer = new } ≡ mapOutcome (rowsWorld (take n rows) space (c .image) (c .pagefile)) start count old → MapAnswer c start count old r new
       unfolding mapCall
       mapped h r new e =
-          let e′ : record { answer = r; buffer = new } ≡ mapInWorld world start count old = rw (q .world) at e in
+          let e′ : record { answer = r; buffer = new } ≡ mapOutcome world start count old = rw (q .world) at e in
           record {
             same = rw (q .check, h) e′;
             demand3 = rw (q .check) (λ x. rw e′ (demand3 world (q .sound) (small-image space n rows q) start count h old));

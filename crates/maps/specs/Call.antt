@@ -16,15 +16,15 @@ use Rattle.maps.specs.MapOf.{allowed, mapOf}
 use Rattle.maps.specs.Demand3.{Demand3}
 
 -- 44 exactly if the map is longer than the buffer; bytes past the map stay
-abbrev pub mapInWorld : World → ℕ → ℕ → List ℕ → WriteOutcome
-mapInWorld w start count out =
+abbrev pub mapOutcome : World → ℕ → ℕ → List ℕ → WriteOutcome
+mapOutcome w start count out =
     if ltb (length out) (length (mapOf w start count)) then unwritten out MapBufferShort else
     written out (mapOf w start count)
 
 -- the sheet, then 40, then 44
 unfoldable pub mapCall : Case → ℕ → ℕ → List ℕ → WriteOutcome
 mapCall c start count out = inCase c (unwritten out) λ w.
-    if allowed start count then mapInWorld w start count out else unwritten out BadMapRange
+    if allowed start count then mapOutcome w start count out else unwritten out BadMapRange
 
 -- the map call's promise: what it hands back, demand 3 for an allowed range, and that the walk rests on what the files hold
 pub record MapAnswer (c : Case) (start count : ℕ) (old : List ℕ) (r : Written) (new : List ℕ) : Type 0 where

@@ -16,7 +16,7 @@ ghost use Rattle.walk.specs.Rows.{rowsWorld};
 ghost use Rattle.case.specs.Case.{caseOf};
 ghost use Rattle.case.specs.Inner.{rowNumbers};
 ghost use Rattle.maps.specs.MapOf.{allowed, mapOf};
-ghost use Rattle.maps.specs.Call.{mapInWorld, MapAnswer};
+ghost use Rattle.maps.specs.Call.{mapOutcome, MapAnswer};
 
 // 01 "What the reader covers": the bytes of a page.
 const PAGE_BYTES: u64 = 0x1000;
@@ -79,7 +79,7 @@ fn map_in(
     out: &mut [u8],
 ) -> Written
     requires { ⌜ (allowed start pages ≡ true) × (length (now image) ≤ 2 ^ 48) ⌝ }
-    ensures { λ r. ⌜ record { answer = r; buffer = now (out .exit) } ≡ mapInWorld (rowsWorld (now (rows .entry)) space (now (image .entry)) (now (pagefile .entry))) start pages (now (out .entry)) ⌝ }
+    ensures { λ r. ⌜ record { answer = r; buffer = now (out .exit) } ≡ mapOutcome (rowsWorld (now (rows .entry)) space (now (image .entry)) (now (pagefile .entry))) start pages (now (out .entry)) ⌝ }
 {
     let none = 0;
     let length = write_map(rows, image, pagefile, space, start, pages, &mut out[..none]);

@@ -94,7 +94,7 @@ fn list_in(
     }
 }
 
-// Follows the links from the head on, for a buffer with so much room, and lays the nodes over a buffer as far as that goes.
+// Follows the links from the head on, for a buffer with `room` places, and lays the nodes over a buffer as far as that goes.
 fn follow(
     rows: &[u64],
     image: &[u8],

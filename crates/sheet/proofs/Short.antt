@@ -1,23 +1,22 @@
 -- A sheet of few bytes has few runs: three numbers before the runs and two a run take a byte each at least.
-use mathlib.Core.Path.{_≡_, ap}
+use mathlib.Core.Path.{_≡_}
 use mathlib.Core.List.{List, [], _∷_}
-use Prim.Native.Nat.{ℕ, zero, suc, _+_, _*_, _%_, _^_, _<_, _≤_}
+use Prim.Native.Nat.{ℕ, zero, suc, _+_, _*_, _^_, _≤_}
 use native.Mathlib.Omega.{arith}
-use lib.Dec.{eqb, leb, ltb}
+use lib.Dec.{leb, ltb}
 use lib.ListN.{length}
-use borrow.Author.Tests.{eqb-true}
 use Rattle.base.specs.Notation.{within}
-use Rattle.base.specs.declared.Refusal.the-variants.{OutOfLimits, BadRun, TrailingBytes, ImageLengthDiffers, PagefileNotWholePages}
+use Rattle.base.specs.declared.Refusal.the-variants.{OutOfLimits, BadRun}
 use Rattle.varint.specs.Reader.{got}
 use Rattle.varint.specs.Groups.{number}
 use Rattle.varint.specs.Edition.{editionFields}
 use Rattle.varint.proofs.Reader.{came, held, returned}
 use Rattle.varint.proofs.Onward.{field-onward, fields-onward}
 use Rattle.entry.specs.Pages.{frame}
-use Rattle.sheet.specs.Sheet.{spaceAt, header, runFrom, runsFrom, endOf, runPages, Sheet, sheetFields, sheetOf}
+use Rattle.sheet.specs.Sheet.{spaceAt, header, runFrom, runsFrom, endOf, Sheet, sheetOf}
 use Rattle.sheet.specs.declared.Header.{Header}
 use Rattle.sheet.specs.declared.Run.{Run}
-use Rattle.sheet.proofs.AcceptedCase.{Runs, runs-chain}
+use Rattle.sheet.proofs.AcceptedCase.{Runs, runs-chain, Parts, sheet-parts}
 
 header-onward : (s : List ℕ) (h : Header) (next : ℕ) → header s 0 ≡ got h next → 3 ≤ next
 unfolding header
@@ -49,17 +48,7 @@ runs-onward (suc n) least end s at rs next e =
     omega (arith, run-onward s at least end (c₁ .value) (c₁ .at) (c₁ .field), runs-onward n 1 (endOf (c₁ .value)) s (c₁ .at) (c₂ .value) (c₂ .at) (c₂ .field))
 
 pub few-bytes : (s : List ℕ) (image pagefile : ℕ) (t : Sheet) (next : ℕ) → sheetOf s image pagefile ≡ got t next → 3 + 2 * length (t .runs) ≤ length s
-unfolding sheetOf sheetFields
 few-bytes s image pagefile t next e =
-    let c₁ = came s _ (header s 0) t next e in
-    let c₂ = came s _ (runsFrom (c₁ .value .count) 0 0 s (c₁ .at)) t next (c₁ .rest) in
-    let t₁ = held s _ (eqb (c₂ .at) (length s)) TrailingBytes (c₂ .at) t next (c₂ .rest) in
-    let t₂ = held s _ (eqb image (4096 * runPages (c₂ .value))) ImageLengthDiffers (c₂ .at) t next (t₁ .1) in
-    let t₃ = held s _ (eqb (pagefile % 4096) 0) PagefileNotWholePages (c₂ .at) t next (t₂ .1) in
-    let same = returned (record { space = c₁ .value .space; runs = c₂ .value }) t (c₂ .at) next (t₃ .1) .0 in
-    let all : c₂ .at ≡ length s = eqb-true (c₂ .at) (length s) (t₁ .0) in
-    let many : length (c₂ .value) ≡ c₁ .value .count = runs-chain (c₁ .value .count) 0 0 s (c₁ .at) (c₂ .value) (c₂ .at) (c₂ .field) .many in
-    let own : 3 + 2 * length (c₂ .value) ≤ length s =
-    omega (arith, header-onward s (c₁ .value) (c₁ .at) (c₁ .field), runs-onward (c₁ .value .count) 0 0 s (c₁ .at) (c₂ .value) (c₂ .at) (c₂ .field)) in
-    let er : c₂ .value ≡ t .runs = ap (λ (z : Sheet). z .runs) same in
-    rw er at own
+    let p = sheet-parts s image pagefile t next e in
+    let many : length (t .runs) ≡ p .fields .count = runs-chain (p .fields .count) 0 0 s (p .at) (t .runs) (length s) (p .runs-read) .many in
+    omega (arith, many, header-onward s (p .fields) (p .at) (p .header-read), runs-onward (p .fields .count) 0 0 s (p .at) (t .runs) (length s) (p .runs-read))
