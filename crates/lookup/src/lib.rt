@@ -1,4 +1,5 @@
 // The lookup call: a map's bytes and an address, to the number and the offset that the map has for it.
+use base::PAGE_BYTES;
 use base::Refusal;
 use entry::VirtualPage;
 use map_format::Extent;
@@ -14,9 +15,6 @@ ghost use Rattle.map_format.specs.Reading.{extentsFrom};
 ghost use Rattle.map_format.specs.Inner.{FieldsInLimits};
 ghost use Rattle.lookup.specs.Call.{refusedLookup, answerAt, inRange, lookupOf};
 ghost use Rattle.lookup.specs.Inner.{noteOf, pageOfRead, FileBelow, askedOf, foundFor};
-
-// 01 "What the reader covers": the bytes of a page.
-const PAGE_BYTES: u64 = 0x1000;
 
 #[repr(C)]
 pub struct Found {

@@ -1,5 +1,7 @@
 // The map call: where each page of a range leads, as extents.
+use base::PAGE_BYTES;
 use base::Refusal;
+use base::TOP_ADDRESS;
 use base::Written;
 use case::Opened;
 use entry::VirtualPage;
@@ -18,16 +20,11 @@ ghost use Rattle.case.specs.Inner.{rowNumbers};
 ghost use Rattle.maps.specs.MapOf.{allowed, mapOf};
 ghost use Rattle.maps.specs.Call.{mapOutcome, MapAnswer};
 
-// 01 "What the reader covers": the bytes of a page.
-const PAGE_BYTES: u64 = 0x1000;
-
 // 01 "One address": canonical addresses lie below this one ..
 const LOWER_HALF_END: u64 = 0x800000000000;
 
 // .. or from this one on, up to the top.
 const UPPER_HALF: u64 = 0xFFFF800000000000;
-
-const TOP_ADDRESS: u64 = 0xFFFFFFFFFFFFFFFF;
 
 // The map of a range into the lent buffer.
 pub fn map_range(

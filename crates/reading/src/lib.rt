@@ -1,5 +1,6 @@
 // The read call: bytes of a case from an address on.
 use base::Refusal;
+use base::TOP_ADDRESS;
 use case::Opened;
 use sheet::AddressSpace;
 use walk::Place;
@@ -15,9 +16,6 @@ ghost use Rattle.case.specs.Inner.{rowNumbers};
 ghost use Rattle.reading.specs.Bytes.{bytesOf};
 ghost use Rattle.reading.specs.Call.{readAll, refusedBytes, doneBytes, ReadAnswer};
 ghost use Rattle.reading.specs.Inner.{pieceOf, PieceInside, FilledWith, Room};
-
-// The last address.
-const TOP_ADDRESS: u64 = 0xFFFFFFFFFFFFFFFF;
 
 // 01's number, how many bytes were read, and 1 if one of them came from a page of zeros.
 #[repr(C)]
