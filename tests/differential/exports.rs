@@ -60,6 +60,18 @@ extern "C" {
         out: *mut u8,
         out_length: usize,
     ) -> Bytes;
+
+    fn test_page_copy(
+        sheet: *const u8,
+        sheet_length: usize,
+        image: *const u8,
+        image_length: usize,
+        pagefile: *const u8,
+        pagefile_length: usize,
+        address: u64,
+        out: *mut u8,
+        out_length: usize,
+    ) -> usize;
 }
 
 pub fn resolve(sheet: &[u8], image: &[u8], pagefile: &[u8], address: u64) -> Answer {
@@ -111,6 +123,30 @@ pub fn read(
             pagefile.len(),
             address,
             n,
+            out.as_mut_ptr(),
+            out.len(),
+        )
+    }
+}
+
+/// The bytes of an address's page over `out` as far as it goes, and how many they are.
+pub fn page_copy(
+    sheet: &[u8],
+    image: &[u8],
+    pagefile: &[u8],
+    address: u64,
+    out: &mut [u8],
+) -> usize {
+    // SAFETY: each pointer and length describe one slice, `out` lent alone.
+    unsafe {
+        test_page_copy(
+            sheet.as_ptr(),
+            sheet.len(),
+            image.as_ptr(),
+            image.len(),
+            pagefile.as_ptr(),
+            pagefile.len(),
+            address,
             out.as_mut_ptr(),
             out.len(),
         )

@@ -1,4 +1,4 @@
-//! Compares the exported address, page and read calls with those of the second walk.
+//! Compares the exported address, page and read calls, and the bytes that the page call lends, with those of the second walk.
 
 #[path = "../common"]
 mod common {
@@ -101,9 +101,11 @@ impl Comparison {
         self.cases += 1;
         let resolved = self.resolve(files.lent(), question.address);
         let parts = pages(files.lent(), question.address, self.slip);
+        let same_page = self.copy_page(files.lent(), question);
         let read = self.read(files.lent(), question);
         let same_bytes = self.buffers[0] == self.buffers[1];
-        let same = same_bytes
+        let same = same_page
+            && same_bytes
             && [resolved, parts, read]
                 .iter()
                 .all(|pair| pair[0] == pair[1]);
@@ -117,6 +119,9 @@ impl Comparison {
             text += &pair_text("resolve", "number, offset, entries", resolved);
             text += &pair_text("page", "file, offset, length", parts);
             text += &pair_text("read", "number, length, zeros", read);
+            if !same_page {
+                text += "\n  the bytes of the page differ";
+            }
             if !same_bytes {
                 text += "\n  the buffers differ";
             }
@@ -140,14 +145,39 @@ impl Comparison {
         ]
     }
 
-    /// Reads into two buffers with the same bytes in and behind them.
-    fn read(&mut self, files: Files, question: &Question) -> Pair {
-        let Question { start, n, room, .. } = *question;
+    /// Two buffers with the same bytes in and behind them.
+    fn lend(&mut self, room: usize) -> &mut [Vec<u8>; 2] {
         for buffer in &mut self.buffers {
             buffer.clear();
             buffer.extend_from_slice(&self.pattern[..room + GUARD]);
         }
-        let [their_buffer, our_buffer] = &mut self.buffers;
+        &mut self.buffers
+    }
+
+    /// Whether the page has the same bytes, copied as far as a buffer goes, and as many.
+    fn copy_page(&mut self, files: Files, question: &Question) -> bool {
+        let Question { address, room, .. } = *question;
+        let part = bytes::page(files, address, self.slip);
+        let Some(page) = bytes::part_bytes(files, &part, self.slip) else {
+            return false;
+        };
+        let [their_buffer, our_buffer] = self.lend(room);
+        let length = exports::page_copy(
+            files.sheet,
+            files.image,
+            files.pagefile,
+            address,
+            &mut their_buffer[..room],
+        );
+        let copied = page.len().min(room);
+        our_buffer[..copied].copy_from_slice(&page[..copied]);
+        length == page.len() && their_buffer == our_buffer
+    }
+
+    fn read(&mut self, files: Files, question: &Question) -> Pair {
+        let Question { start, n, room, .. } = *question;
+        let slip = self.slip;
+        let [their_buffer, our_buffer] = self.lend(room);
         let theirs = exports::read(
             files.sheet,
             files.image,
@@ -156,7 +186,7 @@ impl Comparison {
             n,
             &mut their_buffer[..room],
         );
-        let ours = bytes::read(files, start, n, &mut our_buffer[..room], self.slip);
+        let ours = bytes::read(files, start, n, &mut our_buffer[..room], slip);
         self.read.count(ours.number);
         [
             [theirs.number, theirs.length, theirs.zeros],

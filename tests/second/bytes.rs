@@ -53,6 +53,22 @@ pub fn page(files: Files, address: u64, slip: Slip) -> Part {
     }
 }
 
+/// The bytes of a part, if its file has them.
+pub fn part_bytes<'a>(files: Files<'a>, part: &Part, slip: Slip) -> Option<&'a [u8]> {
+    let file: &[u8] = match part.file {
+        IMAGE => files.image,
+        PAGEFILE => files.pagefile,
+        _ => &[],
+    };
+    let bytes = file
+        .get(part.offset as usize..)?
+        .get(..part.length as usize)?;
+    match slip {
+        Slip::PageBytesLackTheLast => bytes.get(..bytes.len().saturating_sub(1)),
+        _ => Some(bytes),
+    }
+}
+
 fn whole_page(file: u64, offset: u64, slip: Slip) -> Part {
     let place = offset % PAGE_BYTES;
     let (offset, length) = match slip {

@@ -146,6 +146,7 @@ slips! {
         PageFromAddressedByte
         PageOfPagefileAsImage
         PageToItsEnd
+        PageBytesLackTheLast
         PageOfBadSheetHandedOut
         ReadOfBadSheetTaken
         BufferBeforeSheet

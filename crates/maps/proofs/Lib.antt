@@ -1,3 +1,4 @@
 pub mod Ranges
 pub mod Mapping
 pub mod Whole
+pub mod WrongPrograms

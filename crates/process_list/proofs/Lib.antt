@@ -3,3 +3,4 @@ pub mod Following
 pub mod Closing
 pub mod Answers
 pub mod Examples
+pub mod WrongPrograms
