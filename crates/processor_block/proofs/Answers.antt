@@ -15,12 +15,12 @@ use Rattle.case.proofs.Opening.{Accepted}
 use Rattle.processor_block.specs.Block.{blockFrom}
 use Rattle.processor_block.specs.Call.{blockOf, BlockAnswer}
 use Rattle.processor_block.specs.Inner.{Searches}
-use Rattle.processor_block.proofs.Meaning.{exact-from}
+use Rattle.processor_block.proofs.Meaning.{candidate-at, exact-from}
 
 module _ (c : Case) where
   pub refused-search : (from : ℕ) (r : Refusal) → checkOf c ≡ refused r → BlockAnswer c from (refusal r)
   unfolding blockOf
-  refused-search from r e = record { same = rw e; exact = rw e tt }
+  refused-search from r e = record { same = rw e; exact = rw e tt; candidates = rw e tt }
 
   module _ (space : AddressSpace) (n : ℕ) (rows : List ℕ) (q : Accepted c space n rows) where
     abbrev world : World
@@ -34,4 +34,8 @@ module _ (c : Case) where
     unfolding blockOf
     searched from r s =
         let e : r ≡ blockFrom world from = rw (q .world) at (s space) in
-        record { same = rw (q .check) e; exact = rw (q .check, e) (exact-from world (q .sound) whole-pages from) }
+        record {
+          same = rw (q .check) e;
+          exact = rw (q .check, e) (exact-from world (q .sound) whole-pages from);
+          candidates = rw (q .check) (λ o l h a p. candidate-at world (q .sound) whole-pages o h p);
+        }

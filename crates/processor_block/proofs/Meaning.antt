@@ -12,12 +12,19 @@ use Rattle.walk.specs.Walk.{World, Grounded}
 use Rattle.walk.proofs.Ground.{Sound, grounded}
 use Rattle.case.specs.declared.Answer.{Answer}
 use Rattle.processor_block.specs.Block.{selfWord, directoryWord, wordsFit, withDirectory, selfWalk, isBlock, firstBlock, blockFrom}
-use Rattle.processor_block.specs.Call.{GroundedBlock, ExactBlock}
+use Rattle.processor_block.specs.Call.{GroundedCandidate, GroundedBlock, ExactBlock}
 use Rattle.processor_block.proofs.Fitting.{fit-near, whole, past-image, unfit}
 
 module _ (w : World) (sound : Sound w) (pages : length (w .image) % 4096 ≡ 0) where
   sound-under : (d : Frame) → Sound (withDirectory d w)
   sound-under d = record { whole = sound .whole }
+
+  self-grounded : (o : ℕ) → Grounded (withDirectory (frameOf (directoryWord (w .image) o)) w) (selfWalk w o)
+  unfolding selfWalk
+  self-grounded o = grounded (withDirectory (frameOf (directoryWord (w .image) o)) w) (sound-under (frameOf (directoryWord (w .image) o))) (selfWord (w .image) o)
+
+  pub candidate-at : (o : ℕ) → o < length (w .image) → o % 4096 ≤ 0xE28 → GroundedCandidate w o
+  candidate-at o l p = record { inside = whole o (length (w .image)) l pages p; grounded = self-grounded o }
 
   module _ (o : ℕ) (h : isBlock w o ≡ true) where
     in-image : Test o (length (w .image)) → o < length (w .image)
@@ -28,16 +35,8 @@ module _ (w : World) (sound : Sound w) (pages : length (w .image) % 4096 ≡ 0) 
     fits true e = e
     fits false e = absurd (false≢true (sym (unfit w o e) ∙ h))
 
-    self-grounded : Grounded (withDirectory (frameOf (directoryWord (w .image) o)) w) (selfWalk w o)
-    unfolding selfWalk
-    self-grounded = grounded (withDirectory (frameOf (directoryWord (w .image) o)) w) (sound-under (frameOf (directoryWord (w .image) o))) (selfWord (w .image) o)
-
     held : GroundedBlock w o
-    held = record {
-      holds = h;
-      inside = whole o (length (w .image)) (in-image (test o (length (w .image)))) pages (fit-near (w .image) o (fits (wordsFit (w .image) o) refl));
-      grounded = self-grounded;
-    }
+    held = record { holds = h; candidate = candidate-at o (in-image (test o (length (w .image)))) (fit-near (w .image) o (fits (wordsFit (w .image) o) refl)) }
 
   -- n offsets from o on reach the image's end
   exact-first : (n o : ℕ) → length (w .image) ≤ o + n → ExactBlock w o (firstBlock n w o)

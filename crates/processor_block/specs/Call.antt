@@ -1,5 +1,5 @@
 -- What the search hands back, and what that means.
-use Prim.Native.Nat.{ℕ, _+_, _≤_, _<_}
+use Prim.Native.Nat.{ℕ, _+_, _%_, _≤_, _<_}
 use mathlib.Core.Path.{_≡_}
 use mathlib.Core.Bool.{true, false}
 use lib.ListN.{length}
@@ -15,11 +15,14 @@ use Rattle.processor_block.specs.Block.{directoryWord, withDirectory, se
 unfoldable pub blockOf : Case → ℕ → Answer
 blockOf c from = inCase c refusal (λ w. blockFrom w from)
 
--- an offset holds a block, whose words lie in the image and whose Self rests on what the files hold
-pub record GroundedBlock (w : World) (o : ℕ) : Type 0 where
-  pub holds : isBlock w o ≡ true
+-- the words of a block at an offset lie in the image, and its Self rests on what the files hold
+pub record GroundedCandidate (w : World) (o : ℕ) : Type 0 where
   pub inside : o + 0x1D8 ≤ length (w .image)
   pub grounded : Grounded (withDirectory (frameOf (directoryWord (w .image) o)) w) (selfWalk w o)
+
+pub record GroundedBlock (w : World) (o : ℕ) : Type 0 where
+  pub holds : isBlock w o ≡ true
+  pub candidate : GroundedCandidate w o
 
 pub record ExactBlock (w : World) (from : ℕ) (r : Answer) : Type 0 where
   -- found: a block is there, and at no smaller offset from the given one on
@@ -29,7 +32,9 @@ pub record ExactBlock (w : World) (from : ℕ) (r : Answer) : Type 0 where
   pub other : (r .number ≡ 1 → ⊥) → r ≡ refusal NoProcessorBlock
   pub nowhere : r .number ≡ refusalNumber NoProcessorBlock → (o : ℕ) → from ≤ o → isBlock w o ≡ false
 
--- the search's promise: what it hands back, and what that means
+-- the search's promise: what it hands back, what that means, and that every candidate rests on what the files hold
 pub record BlockAnswer (c : Case) (from : ℕ) (r : Answer) : Type 0 where
   pub same : r ≡ blockOf c from
   pub exact : ForAccepted c (λ w. ExactBlock w from r)
+  -- found or not: wherever `isBlock` goes by words
+  pub candidates : ForAccepted c (λ w. (o : ℕ) → from ≤ o → o < length (w .image) → o % 8 ≡ 0 → o % 4096 ≤ 0xE28 → GroundedCandidate w o)
