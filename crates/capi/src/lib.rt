@@ -9,7 +9,7 @@ ghost use Rattle.case.specs.Case.{caseOf};
 ghost use Rattle.address.specs.Page.{partBytes};
 ghost use Rattle.address.specs.Call.{AddressAnswer, PageAnswer, pageBytes};
 ghost use Rattle.reading.specs.Call.{ReadAnswer};
-ghost use Rattle.lookup.specs.Call.{lookupOf};
+ghost use Rattle.lookup.specs.Call.{LookupAnswer};
 ghost use Rattle.maps.specs.Call.{MapAnswer};
 ghost use Rattle.processor_block.specs.Call.{BlockAnswer};
 ghost use Rattle.process_list.specs.Call.{ListAnswer};
@@ -60,7 +60,7 @@ pub extern "C" fn glint_map(
 
 #[no_mangle]
 pub extern "C" fn glint_lookup(map: &[u8], address: u64) -> Found
-    ensures { λ r. ⌜ r ≡ lookupOf (now (map .entry)) address ⌝ }
+    ensures { λ r. ⌜ LookupAnswer (now (map .entry)) address r ⌝ }
 {
     lookup::lookup(map, address)
 }

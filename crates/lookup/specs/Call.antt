@@ -1,17 +1,20 @@
 -- 01 "Maps", lookup: what the call hands back. The map's own faults, then 20, then 41.
-use Prim.Native.Nat.{ℕ, _+_, _-_, _*_, _%_}
-use mathlib.Core.Bool.{Bool, not, _&&_}
+use Prim.Native.Nat.{ℕ, _+_, _-_, _*_, _%_, _≤_}
+use mathlib.Core.Path.{_≡_}
+use mathlib.Core.Logic.{_⊎_}
+use mathlib.Core.Bool.{Bool, true, not, _&&_}
 use mathlib.Core.List.{List}
 use lib.Dec.{ltb, leb}
 use Rattle.base.specs.Notation.{if_then_else_}
 use Rattle.base.specs.Refusal.{refusalNumber}
+use Rattle.base.specs.Codes.{isCode}
 use Rattle.base.specs.declared.Refusal.{Refusal}
 use Rattle.base.specs.declared.Refusal.the-variants.{NotCanonical, OutsideMap}
 use Rattle.varint.specs.Reader.{Read, got, refused}
 use Rattle.entry.specs.Addresses.{canonical}
 use Rattle.entry.specs.Pages.{virtualPageOf}
 use Rattle.entry.specs.declared.VirtualPage.{VirtualPage}
-use Rattle.map_format.specs.Extents.{hasFilePage, pageAt}
+use Rattle.map_format.specs.Extents.{hasFilePage, pageAt, extentPages}
 use Rattle.map_format.specs.Reading.{Map, mapFields}
 use Rattle.map_format.specs.declared.Header.{Header}
 use Rattle.map_format.specs.declared.MappedPage.{MappedPage}
@@ -38,3 +41,11 @@ lookupRead a (got m at) =
 
 unfoldable pub lookupOf : List ℕ → ℕ → Found
 lookupOf bytes a = lookupRead a (mapFields bytes 0)
+
+-- the lookup's promise: what it hands back, and that no default of `pageAt` stands in it
+pub record LookupAnswer (bytes : List ℕ) (a : ℕ) (r : Found) : Type 0 where
+  pub same : r ≡ lookupOf bytes a
+  -- the extents of an accepted map cover its range: each page of it is a page of an extent
+  pub whole : (m : Map) (at : ℕ) → mapFields bytes 0 ≡ got m at → extentPages (m .extents) ≡ m .header .count
+  -- a code that an extent can have, or a refusal
+  pub number : (isCode (r .number) ≡ true) ⊎ (10 ≤ r .number)

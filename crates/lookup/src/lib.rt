@@ -13,7 +13,7 @@ ghost use Rattle.entry.specs.Pages.{virtualPageOf};
 ghost use Rattle.map_format.specs.Extents.{noExtent};
 ghost use Rattle.map_format.specs.Reading.{extentsFrom};
 ghost use Rattle.map_format.specs.Inner.{FieldsInLimits};
-ghost use Rattle.lookup.specs.Call.{refusedLookup, answerAt, inRange, lookupOf};
+ghost use Rattle.lookup.specs.Call.{refusedLookup, answerAt, inRange, LookupAnswer};
 ghost use Rattle.lookup.specs.Inner.{noteOf, pageOfRead, FileBelow, askedOf, foundFor};
 
 #[repr(C)]
@@ -29,7 +29,7 @@ pub enum PageRead {
 
 // The whole map is read before the address is judged, so that its faults come first.
 pub fn lookup(map: &[u8], address: u64) -> Found
-    ensures { λ r. ⌜ r ≡ lookupOf (now (map .entry)) address ⌝ }
+    ensures { λ r. ⌜ LookupAnswer (now (map .entry)) address r ⌝ }
 {
     match map_format::read_header(map) {
         HeaderRead::Refused(refusal) => refuse(refusal),

@@ -7,4 +7,5 @@ pub mod HeaderFields
 pub mod Rules
 pub mod OneExtent
 pub mod ReadBack
+pub mod WholeRead
 pub mod Examples

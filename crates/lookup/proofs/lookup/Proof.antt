@@ -1,6 +1,7 @@
 -- Each return is one step of reading a whole map: no header, no extents, or the answer of the page.
 use denote.Ref.{now}
 use Rattle.map_format.proofs.HeaderFields.{header-got, header-refused}
+use Rattle.lookup.proofs.Answers.{promised}
 use Rattle.lookup.proofs.WholeMap.{file-below, no-header, asked-count, no-extents, looked-up}
 use borrow.Author.Needs.{needs}
 use Rattle.lookup.proofs.lookup.Statement.{statement}
@@ -41,19 +42,23 @@ answer-requires : tie.Need-answer-requires
 answer-requires c κs = file-below _ _ (c .before .page .given .1) (c .before .before .before .read-page .ensures .1)
 
 returns : tie.Need-returns
-returns c = rw (c .refuse .ensures) (no-header _ _ _ (header-refused _ _ _ (c .before .before .before .before .read-header .ensures) (c .before .before .refusal .given .1)))
+returns c =
+    let same = no-header _ _ _ (header-refused _ _ _ (c .before .before .before .before .read-header .ensures) (c .before .before .refusal .given .1)) in
+    promised _ _ _ (rw (c .refuse .ensures) same)
 
 returns-2 : tie.Need-returns-2
 returns-2 c =
     let at-asked = c .before .before .before .before .before in
     let header = header-got _ _ _ _ (at-asked .before .before .before .before .read-header .ensures) (at-asked .before .before .header .given .1) in
-    rw (c .refuse2 .ensures) (no-extents _ _ _ _ header _ (at-asked .asked-page .ensures) _ (c .before .before .before .before .read-page .ensures .0) _ (c .before .before .refusal2 .given .1))
+    let same = no-extents _ _ _ _ header _ (at-asked .asked-page .ensures) _ (c .before .before .before .before .read-page .ensures .0) _ (c .before .before .refusal2 .given .1) in
+    promised _ _ _ (rw (c .refuse2 .ensures) same)
 
 returns-3 : tie.Need-returns-3
 returns-3 c =
     let at-asked = c .before .before .before .before .before in
     let header = header-got _ _ _ _ (at-asked .before .before .before .before .read-header .ensures) (at-asked .before .before .header .given .1) in
-    rw (c .answer .ensures) (looked-up _ _ _ _ header _ (at-asked .asked-page .ensures) _ (c .before .before .before .before .read-page .ensures .0) _ (c .before .before .page .given .1))
+    let same = looked-up _ _ _ _ header _ (at-asked .asked-page .ensures) _ (c .before .before .before .before .read-page .ensures .0) _ (c .before .before .page .given .1) in
+    promised _ _ _ (rw (c .answer .ensures) same)
 
 pub lookup-spec : {M : Type 1} → statement M
 lookup-spec =
