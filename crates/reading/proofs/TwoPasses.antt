@@ -11,11 +11,10 @@ use Rattle.base.specs.declared.Refusal.{Refusal}
 use Rattle.base.specs.declared.Refusal.the-variants.{ReadBufferShort}
 use Rattle.varint.specs.Reader as reader
 use Rattle.sheet.specs.declared.AddressSpace.{AddressSpace}
-use Rattle.walk.specs.Walk.{World, worldOf, resolveOf, Inside}
 use Rattle.walk.specs.Rows.{rowsWorld}
-use Rattle.walk.proofs.Ground.{Sound, resolve-at, in-file}
 use Rattle.case.specs.Case.{Case, checkOf}
-use Rattle.case.proofs.Opening.{Accepted}
+use Rattle.case.specs.Answer.{GroundedAt}
+use Rattle.case.proofs.Opening.{Accepted, refused-grounded, accepted-grounded}
 use Rattle.reading.specs.Bytes.{Bytes, bytes, refused, bytesOf}
 use Rattle.reading.specs.Call.{ReadOutcome, refusedBytes, doneBytes, readAll, readOf, ReadAnswer}
 use Rattle.reading.specs.Inner.{filledOf, BytesLaid, FilledWith}
@@ -54,21 +53,18 @@ module _ (b : Bytes) (n : ℕ) (old last : List ℕ) (r : Filled) (f : FilledWit
 module _ (c : Case) (a n : ℕ) (old : List ℕ) where
   pub refused-case-read : (x : Refusal) → checkOf c ≡ reader.refused x → (r : BytesRead) → r ≡ refusedBytes x → ReadAnswer c a n old r old
   unfolding readOf
-  refused-case-read x e r g = record { same = rw (e, g); found = rw e tt }
+  refused-case-read x e r g = record { same = rw (e, g); grounded = λ k. refused-grounded c x e (a + k) }
 
   module _ (space : AddressSpace) (k : ℕ) (rows : List ℕ) (q : Accepted c space k rows) where
-    abbrev world : World
-    world = worldOf (q .sheet) (c .image) (c .pagefile)
-
-    found-inside : (k : ℕ) → Inside world (resolveOf 3 world (a + k) .place)
-    found-inside k = in-file world (q .sound) (a + k) (resolveOf 3 world (a + k) .place) (resolve-at world (q .sound) 3 (a + k))
+    every-byte : (i : ℕ) → GroundedAt c (a + i)
+    every-byte i = accepted-grounded c space k rows q (a + i)
 
     pub short-read : length old < n → (r : BytesRead) → r ≡ refusedBytes ReadBufferShort → ReadAnswer c a n old r old
     unfolding readOf
-    short-read h r g = record { same = rw (q .check, g, lt-ltb (length old) n h); found = rw (q .check) found-inside }
+    short-read h r g = record { same = rw (q .check, g, lt-ltb (length old) n h); grounded = every-byte }
 
     pub full-read : n ≤ length old → (r : BytesRead) (new : List ℕ)
         → record { answer = r; buffer = new } ≡ readAll old n (bytesOf n (rowsWorld (take k rows) space (c .image) (c .pagefile)) a)
         → ReadAnswer c a n old r new
     unfolding readOf
-    full-read h r new e = record { same = rw (q .check, le-ltb (length old) n h) (rw (q .world) at e); found = rw (q .check) found-inside }
+    full-read h r new e = record { same = rw (q .check, le-ltb (length old) n h) (rw (q .world) at e); grounded = every-byte }

@@ -10,8 +10,8 @@ use Rattle.base.specs.Notation.{if_then_else_}
 use Rattle.base.specs.Refusal.{refusalNumber}
 use Rattle.base.specs.declared.Refusal.{Refusal}
 use Rattle.base.specs.declared.Refusal.the-variants.{ReadBufferShort}
-use Rattle.walk.specs.Walk.{resolveOf, Inside}
-use Rattle.case.specs.Case.{Case, inCase, ForAccepted}
+use Rattle.case.specs.Case.{Case, inCase}
+use Rattle.case.specs.Answer.{GroundedAt}
 use Rattle.reading.specs.Bytes.{Bytes, bytes, refused, bytesOf}
 use Rattle.reading.specs.declared.BytesRead.{BytesRead}
 
@@ -44,7 +44,7 @@ readOf c a n out = inCase c (readRefusal out) λ w.
     if ltb (length out) n then readRefusal out ReadBufferShort else
     readAll out n (bytesOf n w a)
 
--- for an accepted case each byte's page lies whole in its file: what is not a page of zeros, and not refused, was found
+-- the outcome, and that the walk of each byte rests on what the files hold: what is not a page of zeros, and not refused, was found
 pub record ReadAnswer (c : Case) (a n : ℕ) (old : List ℕ) (r : BytesRead) (new : List ℕ) : Type 0 where
   pub same : record { answer = r; buffer = new } ≡ readOf c a n old
-  pub found : ForAccepted c (λ w. (k : ℕ) → Inside w (resolveOf 3 w (a + k) .place))
+  pub grounded : (k : ℕ) → GroundedAt c (a + k)
