@@ -7,7 +7,7 @@ use reading::BytesRead;
 ghost use mathlib.Core.Path.{_≡_};
 ghost use Rattle.case.specs.Case.{caseOf};
 ghost use Rattle.address.specs.Page.{partBytes};
-ghost use Rattle.address.specs.Call.{AddressAnswer, PageAnswer, pageBytes};
+ghost use Rattle.address.specs.Call.{AddressAnswer, PageAnswer, PageBytesAnswer};
 ghost use Rattle.reading.specs.Call.{ReadAnswer};
 ghost use Rattle.lookup.specs.Call.{LookupAnswer};
 ghost use Rattle.maps.specs.Call.{MapAnswer};
@@ -25,7 +25,7 @@ pub extern "C" fn glint_resolve(sheet: &[u8], image: &[u8], pagefile: &[u8], add
 #[no_mangle]
 pub extern "C" fn glint_page(sheet: &[u8], image: &[u8], pagefile: &[u8], address: u64) -> Part
     ensures part { λ r. ⌜ PageAnswer (caseOf (now (sheet .entry)) (now (image .entry)) (now (pagefile .entry))) address r ⌝ }
-    ensures bytes { λ r. ⌜ partBytes (now (image .entry)) (now (pagefile .entry)) r ≡ pageBytes (caseOf (now (sheet .entry)) (now (image .entry)) (now (pagefile .entry))) address ⌝ }
+    ensures bytes { λ r. ⌜ PageBytesAnswer (caseOf (now (sheet .entry)) (now (image .entry)) (now (pagefile .entry))) address (partBytes (now (image .entry)) (now (pagefile .entry)) r) ⌝ }
 {
     address::page_part(sheet, image, pagefile, address)
 }
