@@ -14,7 +14,7 @@ same-length : tie.Need-same-length
 same-length c = search needs
 
 returns : tie.Need-returns
-returns c = wrote-page _ _ _ _ (c .before .before .before .before .page-of .ensures) (c .before .before .copy .ensures)
+returns c = wrote-page _ _ _ _ (c .before .before .before .before .page-of .ensures .same) (c .before .before .copy .ensures)
 
 pub test-page-copy-spec : {M : Type 1} → statement M
 test-page-copy-spec = tie.close (tie.spec page-of-requires copy-requires same-length returns)
