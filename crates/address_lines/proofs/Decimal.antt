@@ -7,7 +7,7 @@ use native.Mathlib.Omega.{arith}
 use borrow.Author.Tests.{lt-ltb, le-ltb}
 use Rattle.base.proofs.Test.{Test, test, below, above}
 use Rattle.io.specs.Digits.{digits, glyph, Fewest}
-use Rattle.address_lines.specs.Line.{digit, decimalSteps, decimalOf}
+use Rattle.address.specs.Line.{digit, decimalSteps, decimalOf}
 
 in-small : (m n : ℕ) → n < 10 → decimalSteps m n ≡ digit n ∷ []
 in-small zero n h = refl

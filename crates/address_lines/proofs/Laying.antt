@@ -10,7 +10,7 @@ use Rattle.io.specs.Digits.{digits, Fewest}
 use Rattle.base.specs.Overlay.{Wrote}
 use Rattle.base.proofs.Overlay.{wrote-then}
 use Rattle.case.specs.declared.Answer.{Answer}
-use Rattle.address_lines.specs.Line.{decimalOf, fieldOf, space, newline, lineOf, LineAt}
+use Rattle.address.specs.Line.{decimalOf, fieldOf, space, newline, lineOf, LineAt}
 use Rattle.address_lines.proofs.Decimal.{fewest-digits}
 
 -- ---- copying

@@ -1,4 +1,3 @@
 pub mod Decimal
 pub mod Laying
-pub mod Examples
 pub mod Reading

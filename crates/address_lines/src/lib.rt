@@ -8,7 +8,7 @@ ghost use lib.Seq.{sets};
 ghost use Rattle.base.specs.Overlay.{Wrote};
 ghost use Rattle.case.specs.Case.{caseOf};
 ghost use Rattle.address.specs.Call.{addressOf};
-ghost use Rattle.address_lines.specs.Line.{fieldOf, lineOf, LineAt};
+ghost use Rattle.address.specs.Line.{fieldOf, lineOf, LineAt};
 
 // Writes the line of an address and answers its length; three numbers of 20 digits need 63 bytes.
 pub fn write_line(

@@ -27,17 +27,17 @@ p2-header = record { start = virtualPage 0xB10; count = 3 }
 p2-map : Map
 p2-map = record { header = p2-header; extents = extent 1 2 5 ∷ extent 22 1 0 ∷ [] }
 
-pub maps : List Example
-maps =
+pub p2 : List Example
+p2 =
     same (mapBytes p2-header (extentsOf p2-pages)) p2-bytes
     ∷ same (mapFields p2-bytes 0) (got p2-map 9)
     ∷ same (pageAt (extentsOf p2-pages) 1) (mappedPage 1 6)
     ∷ same (pageAt (extentsOf p2-pages) 2) (mappedPage 22 0)
     ∷ []
 
-pub maps-hold : Hold maps
-unfolding maps p2-bytes p2-pages p2-header p2-map mapBytes headerBytes extentBytes joined pageAfter encode mapFields headerFields editionFields extentsFrom extentFrom isCode sound number decode
-maps-hold = (refl, (refl, (refl, (refl, tt))))
+pub p2-holds : Hold p2
+unfolding p2 p2-bytes p2-pages p2-header p2-map mapBytes headerBytes extentBytes joined pageAfter encode mapFields headerFields editionFields extentsFrom extentFrom isCode sound number decode
+p2-holds = (refl, (refl, (refl, (refl, tt))))
 
 -- 0 for a map that is taken
 answer-of : Read Map → ℕ
@@ -47,7 +47,8 @@ answer-of (refused r) = refusalNumber r
 answer : List ℕ → ℕ
 answer bytes = answer-of (mapFields bytes 0)
 
--- neighbours that belong together; a code that is not listed, before the end; no pages, and pages past the count, when the last field has been read; a byte after the last; 0 pages and edition 2 are 12
+-- neighbours that belong together; a code that is not listed, before the end; no pages, and pages past the count, when the last field has been read;
+-- a byte after the last; 0 pages and edition 2 are 12
 pub orders : List Example
 orders =
     same (answer (0x01 ∷ 0x00 ∷ 0x02 ∷ 0x01 ∷ 0x01 ∷ 0x05 ∷ 0x01 ∷ 0x01 ∷ 0x06 ∷ [])) 43
