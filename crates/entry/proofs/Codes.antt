@@ -9,9 +9,8 @@ use Rattle.base.specs.Notation.{if_then_else_, bits, bit}
 use Rattle.base.specs.Refusal.{refusalNumber}
 use Rattle.base.specs.Codes.{isCode}
 use Rattle.base.specs.declared.Refusal.the-variants.{FrameTooWide, FileBacked, OtherPagefile, UpperEntryNotValid}
-use Rattle.entry.specs.Pages.{pagefilePage}
 use Rattle.entry.specs.Addresses.{canonical, reachable}
-use Rattle.entry.specs.Entry.{valid, tooWide, frameOf, largeOf, upperOf, validOf, transition, transitionOf, prototype, extended, softwareOf, leafOf, prototypeOf}
+use Rattle.entry.specs.Entry.{valid, tooWide, frameOf, pagefilePageOf, largeOf, upperOf, validOf, transition, transitionOf, prototype, extended, softwareOf, leafOf, prototypeOf}
 use Rattle.entry.specs.declared.PageSize.{PageSize}
 use Rattle.entry.specs.declared.PageSize.the-variants.{Page4K, Page2M, Page1G}
 use Rattle.entry.specs.declared.Level.{Level}
@@ -44,7 +43,7 @@ software-coded e = go (eqb (bits e 32 63) 0) (not (eqb (bits e 1 4) 0))
     small : bits e 32 63 < 2 ^ 32
     small = omega arith
 
-    go : (a b : Bool) → EntryPlaceCoded (if a then ZeroPage else if b then Refused OtherPagefile else InPagefile (pagefilePage (bits e 32 63)))
+    go : (a b : Bool) → EntryPlaceCoded (if a then ZeroPage else if b then Refused OtherPagefile else InPagefile (pagefilePageOf e))
     go true b = tt
     go false true = refl
     go false false = small
