@@ -11,6 +11,7 @@ use Rattle.base.specs.declared.Refusal.{Refusal}
 use Rattle.base.proofs.Test.{both-true}
 use Rattle.base.specs.declared.Refusal.the-variants.{OutOfLimits}
 use Rattle.entry.specs.Pages.{virtualPage}
+use Rattle.entry.specs.declared.VirtualPage.{VirtualPage}
 use Rattle.varint.specs.Reader.{Read, got, refused, after, return}
 use Rattle.varint.specs.Edition.{editionFields}
 use Rattle.varint.specs.declared.EditionFields.{EditionFields}
@@ -30,33 +31,36 @@ pub no-fields : (s : List ℕ) (r : Refusal) → editionFields s 0 ≡ refused r
 unfolding headerFields
 no-fields s r e = rw e
 
-pub all-fields : (s : List ℕ) (f : EditionFields) (next : ℕ) → editionFields s 0 ≡ got f next → judgedRange (f .first) (f .second) next ≡ asHeaderRead (headerFields s 0)
-unfolding headerFields
-all-fields s f next e = rw e (judging s (record { start = virtualPage (f .first); count = f .second }) next (inHalf (f .first) (f .second)))
+abbrev headerOf : EditionFields → Header
+headerOf f = record { start = virtualPage (f .first); count = f .second }
 
-pub record Range (start count : ℕ) : Type 0 where
+pub all-fields : (s : List ℕ) (f : EditionFields) (next : ℕ) → editionFields s 0 ≡ got f next → judgedRange (headerOf f) next ≡ asHeaderRead (headerFields s 0)
+unfolding headerFields
+all-fields s f next e = rw e (judging s (headerOf f) next (inHalf (virtualPage (f .first)) (f .second)))
+
+pub record Range (start : VirtualPage) (count : ℕ) : Type 0 where
   pub some : 1 ≤ count
   pub most : count ≤ 2 ^ 20
-  pub top : start + count ≤ 2 ^ 36
+  pub top : start .0 + count ≤ 2 ^ 36
 
-pub in-half : (start count : ℕ) → inHalf start count ≡ true → Range start count
+pub in-half : (start : VirtualPage) (count : ℕ) → inHalf start count ≡ true → Range start count
 in-half start count h =
-    let t = both-true (within 1 (2 ^ 20) count) (if ltb start (2 ^ 35) then leb (start + count) (2 ^ 35) else leb (start + count) (2 ^ 36)) h in
+    let t = both-true (within 1 (2 ^ 20) count) (if ltb (start .0) (2 ^ 35) then leb (start .0 + count) (2 ^ 35) else leb (start .0 + count) (2 ^ 36)) h in
     let w = both-true (leb 1 count) (leb count (2 ^ 20)) (t .0) in
-    record { some = leb-true 1 count (w .0); most = leb-true count (2 ^ 20) (w .1); top = top (ltb start (2 ^ 35)) (t .1) }
+    record { some = leb-true 1 count (w .0); most = leb-true count (2 ^ 20) (w .1); top = top (ltb (start .0) (2 ^ 35)) (t .1) }
   where
-    top : (b : Bool) → (if b then leb (start + count) (2 ^ 35) else leb (start + count) (2 ^ 36)) ≡ true → start + count ≤ 2 ^ 36
-    top true e = omega (arith, leb-true (start + count) (2 ^ 35) e)
-    top false e = leb-true (start + count) (2 ^ 36) e
+    top : (b : Bool) → (if b then leb (start .0 + count) (2 ^ 35) else leb (start .0 + count) (2 ^ 36)) ≡ true → start .0 + count ≤ 2 ^ 36
+    top true e = omega (arith, leb-true (start .0 + count) (2 ^ 35) e)
+    top false e = leb-true (start .0 + count) (2 ^ 36) e
 
-pub header-range : (s : List ℕ) (at : ℕ) (h : Header) (next : ℕ) → headerFields s at ≡ got h next → Range (h .start .0) (h .count)
+pub header-range : (s : List ℕ) (at : ℕ) (h : Header) (next : ℕ) → headerFields s at ≡ got h next → Range (h .start) (h .count)
 unfolding headerFields
 header-range s at h next e =
     let c = came s _ (editionFields s at) h next e in
     let f = c .value in
-    let t = held s _ (inHalf (f .first) (f .second)) OutOfLimits (c .at) h next (c .rest) in
-    let same = returned (record { start = virtualPage (f .first); count = f .second }) h (c .at) next (t .1) .0 in
-    rw (← same) (in-half (f .first) (f .second) (t .0))
+    let t = held s _ (inHalf (virtualPage (f .first)) (f .second)) OutOfLimits (c .at) h next (c .rest) in
+    let same = returned (headerOf f) h (c .at) next (t .1) .0 in
+    rw (← same) (in-half (virtualPage (f .first)) (f .second) (t .0))
 
 -- what a caller of `read_header` learns
 pub header-got : (d : Read Header) (v : HeaderRead) (h : Header) (next : ℕ) → v ≡ asHeaderRead d → v ≡ Fields h next → d ≡ got h next

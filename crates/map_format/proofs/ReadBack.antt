@@ -196,13 +196,13 @@ map-sum : (h : Header) (es : List Extent) → length (mapBytes h es) ≡ length 
 unfolding mapBytes headerBytes
 map-sum h es = rw (append-assoc, append-assoc, length-append, length-append, length-append)
 
-pub map-reads : (s : List ℕ) (h : Header) (es : List Extent) → s ≡ mapBytes h es → inHalf (h .start .0) (h .count) ≡ true → Chain es → extentPages es ≡ h .count
+pub map-reads : (s : List ℕ) (h : Header) (es : List Extent) → s ≡ mapBytes h es → inHalf (h .start) (h .count) ≡ true → Chain es → extentPages es ≡ h .count
     → mapFields s 0 ≡ got (record { header = h; extents = es }) (length s)
 unfolding mapFields headerFields editionFields
 map-reads s h es e half ch t =
     let start = h .start .0 in
     let count = h .count in
-    let r = in-half start count half in
+    let r = in-half (h .start) count half in
     let d₀ : drop 0 s ≡ encode 1 ++ (encode start ++ (encode count ++ (extentsBytes es ++ []))) = e ∙ map-split h es in
     let at₁ : ℕ = 0 + length (encode 1) in
     let d₁ : drop at₁ s ≡ encode start ++ (encode count ++ (extentsBytes es ++ [])) = drop-after s 0 (encode 1) _ d₀ in
@@ -220,8 +220,8 @@ map-reads s h es e half ch t =
       eq-eqb (at₃ + length (extentsBytes es)) (length s) end,
     ) (ap (got (record { header = h; extents = es })) end)
 
-pub reads-back : (ps : List MappedPage) (h : Header) → AllMappable ps → h .count ≡ length ps → inHalf (h .start .0) (h .count) ≡ true
+pub reads-back : (ps : List MappedPage) (h : Header) → AllMappable ps → h .count ≡ length ps → inHalf (h .start) (h .count) ≡ true
     → mapFields (mapBytes h (extentsOf ps)) 0 ≡ got (record { header = h; extents = extentsOf ps }) (length (mapBytes h (extentsOf ps)))
 reads-back ps h q n half =
-    let r = in-half (h .start .0) (h .count) half in
+    let r = in-half (h .start) (h .count) half in
     map-reads (mapBytes h (extentsOf ps)) h (extentsOf ps) refl half (extents-chain ps q (omega (arith, r .most))) (pages-sum ps ∙ sym n)

@@ -5,7 +5,6 @@ use Prim.Native.Nat.{ℕ, _^_, _<_}
 use Rattle.base.specs.Notation.{if_then_else_}
 use Rattle.base.specs.declared.Refusal.the-variants.{OutOfLimits, BadExtent}
 use Rattle.varint.specs.Reader.{Read, got, refused}
-use Rattle.entry.specs.Pages.{virtualPage}
 use Rattle.map_format.specs.Extents.{hasFilePage}
 use Rattle.map_format.specs.Reading.{inHalf, sound}
 use Rattle.map_format.specs.declared.Extent.{Extent}
@@ -19,10 +18,8 @@ abbrev pub asHeaderRead : Read Header → HeaderRead
 asHeaderRead (got h next) = header.Fields h next
 asHeaderRead (refused r) = header.Refused r
 
-abbrev pub judgedRange : ℕ → ℕ → ℕ → HeaderRead
-judgedRange start count next =
-    if inHalf start count then header.Fields (record { start = virtualPage start; count = count }) next else
-    header.Refused OutOfLimits
+abbrev pub judgedRange : Header → ℕ → HeaderRead
+judgedRange h next = if inHalf (h .start) (h .count) then header.Fields h next else header.Refused OutOfLimits
 
 abbrev pub asExtentRead : Read Extent → ExtentRead
 asExtentRead (got e next) = extent.Taken e next

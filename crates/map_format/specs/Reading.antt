@@ -10,19 +10,20 @@ use Rattle.varint.specs.Reader.{Reader, _>>=_, _>>_, return, need, ended}
 use Rattle.varint.specs.Groups.{number}
 use Rattle.varint.specs.Edition.{editionFields}
 use Rattle.entry.specs.Pages.{virtualPage}
+use Rattle.entry.specs.declared.VirtualPage.{VirtualPage}
 use Rattle.map_format.specs.Extents.{hasFilePage, joins, extent, noExtent}
 use Rattle.map_format.specs.declared.Extent.{Extent}
 use Rattle.map_format.specs.declared.Header.{Header}
 
 -- 1 to 2^20 pages in one half of 2^35
-abbrev pub inHalf : ℕ → ℕ → Bool
-inHalf start count = within 1 (2 ^ 20) count && (if ltb start (2 ^ 35) then leb (start + count) (2 ^ 35) else leb (start + count) (2 ^ 36))
+abbrev pub inHalf : VirtualPage → ℕ → Bool
+inHalf start count = within 1 (2 ^ 20) count && (if ltb (start .0) (2 ^ 35) then leb (start .0 + count) (2 ^ 35) else leb (start .0 + count) (2 ^ 36))
 
 -- edition, start page, page count; the range is judged when the count has been read
 unfoldable pub headerFields : Reader Header
 headerFields = do
   fields ← editionFields
-  need (inHalf (fields .first) (fields .second)) OutOfLimits
+  need (inHalf (virtualPage (fields .first)) (fields .second)) OutOfLimits
   return (record { start = virtualPage (fields .first); count = fields .second })
 
 -- the first page of the file, for codes that have one

@@ -163,24 +163,28 @@ pub fn read_header(s: &[u8]) -> HeaderRead
 {
     match varint::read_edition_fields(s) {
         EditionRead::Refused(refusal) => HeaderRead::Refused(refusal),
-        EditionRead::Fields(fields, next) => judge_range(fields.first, fields.second, next),
+        EditionRead::Fields(fields, next) => {
+            let header = Header {
+                start: VirtualPage::numbered(fields.first),
+                count: fields.second,
+            };
+            judge_range(header, next)
+        }
     }
 }
 
-fn judge_range(start: u64, count: u64, next: usize) -> HeaderRead
-    requires { ⌜ start < 2 ^ 36 ⌝ }
-    ensures { λ r. ⌜ r ≡ judgedRange start count next ⌝ }
+fn judge_range(header: Header, next: usize) -> HeaderRead
+    requires { ⌜ header .start .0 < 2 ^ 36 ⌝ }
+    ensures { λ r. ⌜ r ≡ judgedRange header next ⌝ }
 {
+    let start = header.start.number();
+    let count = header.count;
     if count < 1 {
         return HeaderRead::Refused(Refusal::OutOfLimits);
     }
     if MOST_PAGES < count {
         return HeaderRead::Refused(Refusal::OutOfLimits);
     }
-    let header = Header {
-        start: VirtualPage::numbered(start),
-        count,
-    };
     if start < UPPER_HALF_PAGE {
         if UPPER_HALF_PAGE < start + count {
             return HeaderRead::Refused(Refusal::OutOfLimits);

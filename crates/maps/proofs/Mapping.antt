@@ -2,7 +2,7 @@
 use mathlib.Core.Path.{_≡_, refl, ap, _∙_}
 use mathlib.Core.Bool.{true}
 use mathlib.Core.List.{List, [], _∷_, _++_}
-use Prim.Native.Nat.{ℕ, zero, suc, _+_, _-_, _*_, _/_, _^_, _≤_, _<_}
+use Prim.Native.Nat.{ℕ, zero, suc, _+_, _-_, _*_, _^_, _≤_, _<_}
 use native.Mathlib.Omega.{arith}
 use lib.ListN.{length}
 use lib.Seq.{sets, length-sets}
@@ -21,9 +21,7 @@ use Rattle.walk.specs.declared.Place.{Place}
 use Rattle.walk.specs.declared.Place.the-variants.{Image, Pagefile, Zeros, Refused}
 use Rattle.walk.proofs.Ground.{Sound}
 use Rattle.walk.proofs.Codes.{PlaceCoded, resolve-coded}
-use Rattle.case.specs.Answer.{placeAnswer}
-use Rattle.case.specs.declared.Answer.{Answer}
-use Rattle.map_format.specs.Extents.{mappedPage, extentsOf}
+use Rattle.map_format.specs.Extents.{extentsOf}
 use Rattle.map_format.specs.Layout.{headerBytes, extentsBytes, mapBytes}
 use Rattle.map_format.specs.Build.{openBytes, PagesTaken, RoomFor}
 use Rattle.map_format.specs.declared.Builder.{Builder}
@@ -81,11 +79,10 @@ module _ {w : World} {start count : ℕ} {old : List ℕ} {b₀ : Builder} {i : 
       mappable (resolveOf 3 w (start + 4096 * i) .place) (resolve-coded w sound small 3 (start + 4096 * i) (r .reaches))
 
   pub mapping-next : Sound w → length (w .image) ≤ 2 ^ 48 → allowed start count ≡ true → i < count
-      → (v : Resolved) → v ≡ resolvedOf (resolveOf 3 w (start + 4096 * i)) → (a : Answer) → a ≡ placeAnswer (v .place) (v .entries)
-      → (new : List ℕ) (b′ : Builder) → PagesTaken out b (mappedPage (a .number) (a .offset / 4096) ∷ []) new b′ → Mapping w start count old b₀ (i + 1) new b′
-  mapping-next sound small range h v e a f new b′ p =
-      let same-place : v .place ≡ resolveOf 3 w (start + 4096 * i) .place = ap (λ (z : Resolved). z .place) e in
-      let same : mappedPage (a .number) (a .offset / 4096) ≡ mappedPageOf (resolveOf 3 w (start + 4096 * i) .place) = rw (f, same-place) in
+      → (v : Resolved) → v ≡ resolvedOf (resolveOf 3 w (start + 4096 * i)) → (page : MappedPage) → page ≡ mappedPageOf (v .place)
+      → (new : List ℕ) (b′ : Builder) → PagesTaken out b (page ∷ []) new b′ → Mapping w start count old b₀ (i + 1) new b′
+  mapping-next sound small range h v e page f new b′ p =
+      let same : page ≡ mappedPageOf (resolveOf 3 w (start + 4096 * i) .place) = f ∙ ap (λ (z : Resolved). mappedPageOf (z .place)) e in
       let p′ : PagesTaken out b (mappedPageOf (resolveOf 3 w (start + 4096 * i) .place) ∷ []) new b′ = rw same at p in
       let holds = mappable-at sound small range h in
       let k : count - i ≡ suc (count - (i + 1)) = omega arith in

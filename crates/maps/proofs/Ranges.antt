@@ -8,6 +8,7 @@ use borrow.Author.Tests.{lt-ltb, le-ltb, le-leb, lt-leb, leb-true, leb-false, eq
 use Rattle.base.specs.Notation.{bits, within}
 use Rattle.base.proofs.Test.{Test, test, below, above, both-true}
 use Rattle.entry.specs.Addresses.{reachable}
+use Rattle.entry.specs.Pages.{virtualPageOf}
 use Rattle.map_format.specs.Reading.{inHalf}
 use Rattle.maps.specs.MapOf.{allowed}
 
@@ -155,10 +156,10 @@ module _ {start count : ℕ} (q : Allowed start count) where
           let last : a / 4096 < start / 4096 + count = omega (arith, q .aligned) in
           record { reaches = high-reach a (omega arith) (omega arith); not-below = omega (arith, ps, pa, order); not-above = omega (arith, ps, pa, last); page = omega (arith, ps, pa, apart, order) }
 
-  pub start-in-half : inHalf (bits start 12 47) count ≡ true
+  pub start-in-half : inHalf (virtualPageOf start) count ≡ true
   start-in-half = go (q .half)
     where
-      go : Half start count → inHalf (bits start 12 47) count ≡ true
+      go : Half start count → inHalf (virtualPageOf start) count ≡ true
       go (low h) = rw (
         le-leb 1 count (q .some),
         le-leb count (2 ^ 20) (q .most),

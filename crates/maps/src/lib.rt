@@ -9,6 +9,7 @@ use map_format::Builder;
 use map_format::Header;
 use map_format::MappedPage;
 use sheet::AddressSpace;
+use walk::Resolved;
 ghost use mathlib.Core.Path.{_≡_};
 ghost use mathlib.Core.Bool.{true};
 ghost use Prim.Native.Nat.{_≤_, _^_};
@@ -17,7 +18,7 @@ ghost use Rattle.base.specs.Overlay.{Wrote};
 ghost use Rattle.walk.specs.Rows.{rowsWorld};
 ghost use Rattle.case.specs.Case.{caseOf};
 ghost use Rattle.case.specs.Inner.{rowNumbers};
-ghost use Rattle.maps.specs.MapOf.{allowed, mapOf};
+ghost use Rattle.maps.specs.MapOf.{allowed, mappedPageOf, mapOf};
 ghost use Rattle.maps.specs.Call.{mapOutcome, MapAnswer};
 
 // 01 "One address": canonical addresses lie below this one ..
@@ -139,13 +140,19 @@ fn write_map(
     let mut i = 0;
     while i < pages {
         let found = walk::resolve_in(rows, image, pagefile, space, start + PAGE_BYTES * i);
-        let answer = case::answer_of(found);
-        let page = MappedPage {
-            code: answer.number,
-            file: answer.offset / PAGE_BYTES,
-        };
-        builder = builder.push(out, page);
+        builder = builder.push(out, mapped_page(found));
         i += 1;
     }
     builder.finish(out)
+}
+
+// A page of the map, from the answer for its first byte: the number as code, the offset in pages of the file.
+fn mapped_page(found: Resolved) -> MappedPage
+    ensures { λ r. ⌜ r ≡ mappedPageOf (found .place) ⌝ }
+{
+    let answer = case::answer_of(found);
+    MappedPage {
+        code: answer.number,
+        file: answer.offset / PAGE_BYTES,
+    }
 }

@@ -14,14 +14,21 @@ enum-known-refusal c = search needs
 enum-known-fields : tie.Need-enum-known-fields
 enum-known-fields c = search needs
 
+numbered-requires : tie.Need-numbered-requires
+numbered-requires c κs = search needs
+
 judge-range-requires : tie.Need-judge-range-requires
-judge-range-requires c κs = fields-below _ _ _ _ (fields-got _ _ _ _ (c .before .before .before .read-edition-fields .ensures) (c .before .fields .given .1)) .first
+judge-range-requires c κs =
+    let fields = fields-got _ _ _ _ (c .before .before .before .before .read-edition-fields .ensures) (c .before .before .fields .given .1) in
+    rw (c .numbered .ensures) (fields-below _ _ _ _ fields .first)
 
 returns : tie.Need-returns
 returns c = rw (no-fields _ _ (fields-refused _ _ _ (c .before .before .before .read-edition-fields .ensures) (c .before .refusal .given .1)))
 
 returns-2 : tie.Need-returns-2
-returns-2 c = rw (c .judge-range .ensures) (all-fields _ _ _ (fields-got _ _ _ _ (c .before .before .before .before .read-edition-fields .ensures) (c .before .before .fields .given .1)))
+returns-2 c =
+    let fields = fields-got _ _ _ _ (c .before .before .before .before .before .read-edition-fields .ensures) (c .before .before .before .fields .given .1) in
+    rw (c .judge-range .ensures, c .before .numbered .ensures) (all-fields _ _ _ fields)
 
 pub read-header-spec : {M : Type 1} → statement M
 read-header-spec =
@@ -30,6 +37,7 @@ read-header-spec =
     read-edition-fields-requires
     enum-known-refusal
     enum-known-fields
+    numbered-requires
     judge-range-requires
     returns
     returns-2)

@@ -44,15 +44,15 @@ add-resolve-in c = let at-page = c .before .before .before .before .before .befo
 resolve-in-requires : tie.Need-resolve-in-requires Inv-loop μ-loop
 resolve-in-requires c κs = search needs
 
-answer-of-requires : tie.Need-answer-of-requires Inv-loop μ-loop
-answer-of-requires c κs = search needs
+mapped-page-requires : tie.Need-mapped-page-requires Inv-loop μ-loop
+mapped-page-requires c κs = search needs
 
 push-requires : tie.Need-push-requires Inv-loop μ-loop
-push-requires c κs = mapping-room (c .before .before .before .before .before .loop .inv) (c .before .before .before .before .loop-test .taken)
+push-requires c κs = mapping-room (c .before .before .before .before .loop .inv) (c .before .before .before .loop-test .taken)
 
 add-i : tie.Need-add-i Inv-loop μ-loop
 add-i c =
-    let at-test = c .before .before .before .before .before .before .before in
+    let at-test = c .before .before .before .before .before .before in
     let start = at-test .before .before .before .before .before .before .before .before .before .before .before in
     omega (arith, at-test .loop-test .taken, allowed-range _ _ (start .pre .0) .most)
 
@@ -61,13 +61,13 @@ loop-less c = search needs
 
 loop-again : tie.Need-loop-again Inv-loop μ-loop
 loop-again c =
-    let at-test = c .before .before .before .before .before .before .before in
+    let at-test = c .before .before .before .before .before .before in
     let start = at-test .before .before .before .before .before .before .before .before .before .before .before in
     let sound = sound-rows (now (start .args .rows)) (start .args .space) (now (start .args .image)) (now (start .args .pagefile)) in
-    let found = c .before .before .before .before .before .before .resolve-in .ensures in
-    let answer = c .before .before .before .before .before .answer-of .ensures in
+    let found = c .before .before .before .before .before .resolve-in .ensures in
+    let page = c .before .before .before .mapped-page .ensures in
     let next = mapping-next (at-test .before .loop .inv) sound (start .pre .1) (start .pre .0) (at-test .loop-test .taken) in
-    next _ found _ answer _ _ (c .before .before .push .ensures)
+    next _ found _ page _ _ (c .before .before .push .ensures)
 
 finish-requires : tie.Need-finish-requires Inv-loop μ-loop
 finish-requires c κs = mapping-end (c .before .before .loop .inv) (c .before .loop-test .left)
@@ -98,7 +98,7 @@ write-map-spec =
     mul-resolve-in
     add-resolve-in
     resolve-in-requires
-    answer-of-requires
+    mapped-page-requires
     push-requires
     add-i
     loop-less
