@@ -2,6 +2,9 @@
 use entry::Frame;
 use sheet::AddressSpace;
 use walk::Place;
+ghost use mathlib.Core.Path.{_≡_};
+ghost use Prim.Native.Nat.{_%_, _^_};
+ghost use Rattle.bench_walk.specs.Bench.{benchWorld, walkedOffset, walkedSum};
 
 // The sum of the image offsets of consecutive pages, modulo 2^64: one call that walks many pages.
 #[no_mangle]
@@ -12,7 +15,9 @@ pub extern "C" fn bench_walk_pages(
     directory: u64,
     start: u64,
     pages: u64,
-) -> u64 {
+) -> u64
+    ensures { λ r. ⌜ r ≡ walkedSum pages (benchWorld (now (rows .entry)) (now (image .entry)) (now (pagefile .entry)) directory) start % 2 ^ 64 ⌝ }
+{
     let mut sum = 0;
     let mut a = start;
     let mut i = 0;
@@ -32,7 +37,9 @@ pub extern "C" fn bench_walk_one(
     pagefile: &[u8],
     directory: u64,
     address: u64,
-) -> u64 {
+) -> u64
+    ensures { λ r. ⌜ r ≡ walkedOffset (benchWorld (now (rows .entry)) (now (image .entry)) (now (pagefile .entry)) directory) address ⌝ }
+{
     let space = AddressSpace {
         directory: Frame::numbered(directory),
     };
