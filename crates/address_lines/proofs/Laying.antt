@@ -4,7 +4,7 @@ use mathlib.Core.List.{List, [], _∷_, _++_}
 use Prim.Native.Nat.{ℕ, zero, suc, _+_, _<_, _≤_}
 use native.Mathlib.Omega.{arith}
 use lib.ListN.{length, take, drop, getD, set, length-append, length-set}
-use lib.Seq.{sets, sets-eq, take-all, length-take-le}
+use lib.Seq.{sets, sets-eq, take-all, take-append-le, length-take-le}
 use Rattle.base.proofs.Overlay.{sets-append, sets-next}
 use Rattle.io.specs.Digits.{digits, Fewest}
 use Rattle.base.specs.Overlay.{Wrote}
@@ -65,3 +65,6 @@ module _ (line old : List ℕ) (r : ℕ) (new : List ℕ) (q : LineAt line old r
 
   pub line-counts : r ≡ length (take r new)
   line-counts = sym (length-take-le r new line-within)
+
+  pub line-taken : take r new ≡ line
+  line-taken = rw (q .bytes) (take-append-le r line (drop r old) (omega (arith, q .count)) ∙ take-all r line (omega (arith, q .count)))

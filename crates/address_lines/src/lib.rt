@@ -9,6 +9,7 @@ ghost use Rattle.base.specs.Overlay.{Wrote};
 ghost use Rattle.case.specs.Case.{caseOf};
 ghost use Rattle.address.specs.Call.{addressOf};
 ghost use Rattle.address.specs.Line.{fieldOf, lineOf, LineAt};
+ghost use Rattle.address_lines.specs.Files.{FilesRead, caseOfFiles, lineFor};
 
 // Writes the line of an address and answers its length; three numbers of 20 digits need 63 bytes.
 pub fn write_line(
@@ -34,14 +35,10 @@ pub fn run() {
     if !files.ok {
         return;
     }
-    let image = files.image;
-    let pagefile = files.pagefile;
-    let end = files.end;
-    if 65536 < end {
+    if 65536 < files.end {
         return;
     }
-    let all = &buf[..];
-    answer_all(&all[0..image], &all[image..pagefile], &all[pagefile..end]);
+    answer_all(&buf, files);
 }
 
 // ---- the line
@@ -89,7 +86,7 @@ struct Loaded {
 
 // The files that the three arguments name, one after another.
 fn load_all(buf: &mut [u8]) -> Files
-    ensures { λ r. ⌜ (r .image ≤ r .pagefile) × (r .pagefile ≤ r .end) × (r .end ≤ length (now (buf .entry))) ⌝ }
+    ensures { λ r. ⌜ (r .image ≤ r .pagefile) × (r .pagefile ≤ r .end) × (r .end ≤ length (now (buf .exit))) ⌝ }
 {
     let sheet = load(1, buf, 0);
     let image = load(2, buf, sheet.end);
@@ -146,27 +143,50 @@ fn read_all(fd: i32, buf: &mut [u8], at: usize) -> Loaded
 
 // ---- the addresses
 
-fn answer_all(sheet: &[u8], image: &[u8], pagefile: &[u8]) {
+fn answer_all(buf: &[u8], files: Files)
+    requires { ⌜ FilesRead (now buf) files ⌝ }
+{
     // No input has 2^64 - 1 addresses.
     let mut turns = u64::MAX;
-    while turns > 0 && answer_next(sheet, image, pagefile) {
+    while turns > 0 && answer_next(buf, files) {
         turns -= 1;
     }
 }
 
 // Reads an address and prints its line; answers whether to go on.
-fn answer_next(sheet: &[u8], image: &[u8], pagefile: &[u8]) -> bool {
+fn answer_next(buf: &[u8], files: Files) -> bool
+    requires { ⌜ FilesRead (now buf) files ⌝ }
+{
     let mut address = [0u8; 8];
     if io::read_full(STDIN_FILENO, &mut address) < 8 {
         return false;
     }
     let mut line = [0u8; 64];
-    let n = write_line(
-        sheet,
-        image,
-        pagefile,
-        words::word_at(&address, 0),
-        &mut line,
-    );
-    io::write_all(STDOUT_FILENO, &line[..n])
+    let n = line_from_files(buf, files, words::word_at(&address, 0), &mut line);
+    print_line(buf, files, &address, &line[..n])
+}
+
+// The line of an address, over the three files in the buffer.
+fn line_from_files(buf: &[u8], files: Files, address: u64, out: &mut [u8; 64]) -> usize
+    requires { ⌜ FilesRead (now buf) files ⌝ }
+    ensures { λ r. ⌜ LineAt (lineOf (addressOf (caseOfFiles (now (buf .entry)) files) address)) (now (out .entry)) r (now (out .exit)) ⌝ }
+{
+    let image = files.image;
+    let pagefile = files.pagefile;
+    let end = files.end;
+    write_line(
+        &buf[..image],
+        &buf[image..pagefile],
+        &buf[pagefile..end],
+        address,
+        out,
+    )
+}
+
+// Prints a line. No contract of the system says what was printed, so the `requires` says what is handed over.
+fn print_line(buf: &[u8], files: Files, address: &[u8], line: &[u8]) -> bool
+    requires { ⌜ FilesRead (now buf) files ⌝ }
+    requires { ⌜ now line ≡ lineFor (now buf) files (now address) ⌝ }
+{
+    io::write_all(STDOUT_FILENO, line)
 }

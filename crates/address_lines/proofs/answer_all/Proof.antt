@@ -4,10 +4,10 @@ use Rattle.address_lines.proofs.answer_all.Statement.{statement}
 use Rattle.address_lines.proofs.answer_all.Tie as tie
 
 abbrev Inv-loop : tie.InvT-loop
-Inv-loop sheet image pagefile turns₀ turns = Unit {0}
+Inv-loop buf files turns₀ turns = Unit {0}
 
 abbrev μ-loop : tie.MeasureT-loop
-μ-loop sheet image pagefile turns₀ turns = turns
+μ-loop buf files turns₀ turns = turns
 
 loop-holds : tie.Need-loop-holds Inv-loop μ-loop
 loop-holds c = search needs

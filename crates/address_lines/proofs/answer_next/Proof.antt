@@ -1,5 +1,5 @@
--- A line fits its buffer.
-use Rattle.address_lines.proofs.Laying.{line-within, line-counts}
+-- What is printed is what was written, the line for the 8 bytes read.
+use Rattle.address_lines.proofs.Laying.{line-within, line-counts, line-taken}
 use borrow.Author.Needs.{needs}
 use Rattle.address_lines.proofs.answer_next.Statement.{statement}
 use Rattle.address_lines.proofs.answer_next.Tie as tie
@@ -19,17 +19,23 @@ slice-aggregate-word-at c = search needs
 word-at-requires : tie.Need-word-at-requires
 word-at-requires c κs = search needs
 
-write-line-requires : tie.Need-write-line-requires
-write-line-requires c κs = search needs
+line-from-files-requires : tie.Need-line-from-files-requires
+line-from-files-requires c κs = search needs
+
+slice-aggregate-print-line : tie.Need-slice-aggregate-print-line
+slice-aggregate-print-line c = search needs
 
 array-share-prefix-line : tie.Need-array-share-prefix-line
-array-share-prefix-line c = line-within _ _ _ _ (c .write-line .ensures)
+array-share-prefix-line c = line-within _ _ _ _ (c .before .line-from-files .ensures)
 
-slice-aggregate-write-all : tie.Need-slice-aggregate-write-all
-slice-aggregate-write-all c = line-counts _ _ _ _ (c .before .write-line .ensures)
+slice-aggregate-print-line-2 : tie.Need-slice-aggregate-print-line-2
+slice-aggregate-print-line-2 c = line-counts _ _ _ _ (c .before .before .line-from-files .ensures)
 
-write-all-requires : tie.Need-write-all-requires
-write-all-requires c κs = search needs
+print-line-requires : tie.Need-print-line-requires
+print-line-requires c κs =
+    let at-word = c .before .before .before .before in
+    let start = at-word .before .before .before .before .before .before .before in
+    (start .pre, rw (← at-word .word-at .ensures) (line-taken _ _ _ _ (c .before .before .line-from-files .ensures)))
 
 returns-2 : tie.Need-returns-2
 returns-2 c = search needs
@@ -43,8 +49,9 @@ answer-next-spec =
     returns
     slice-aggregate-word-at
     word-at-requires
-    write-line-requires
+    line-from-files-requires
+    slice-aggregate-print-line
     array-share-prefix-line
-    slice-aggregate-write-all
-    write-all-requires
+    slice-aggregate-print-line-2
+    print-line-requires
     returns-2)
