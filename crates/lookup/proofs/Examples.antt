@@ -5,7 +5,7 @@ use Prim.Native.Nat.{ℕ, _+_}
 use Rattle.base.specs.Example.{Example, same, Hold}
 use Rattle.base.specs.Codes.{isCode}
 use Rattle.varint.specs.Groups.{decode, number}
-use Rattle.varint.specs.Edition.{editionFields}
+use Rattle.varint.specs.Edition.{edition, editionFields}
 use Rattle.map_format.specs.Extents.{pageAfter}
 use Rattle.map_format.specs.Reading.{headerFields, sound, extentFrom, extentsFrom, mapFields}
 use Rattle.lookup.specs.Call.{lookupOf}
@@ -28,7 +28,7 @@ lookups =
     ∷ []
 
 pub lookups-hold : Hold lookups
-unfolding lookups p2-bytes answered lookupOf mapFields headerFields editionFields extentsFrom extentFrom isCode sound pageAfter number decode
+unfolding lookups p2-bytes answered lookupOf mapFields headerFields editionFields edition extentsFrom extentFrom isCode sound pageAfter number decode
 lookups-hold = (refl, (refl, (refl, (refl, (refl, (refl, tt))))))
 
 answer : List ℕ → ℕ → ℕ
@@ -59,5 +59,5 @@ orders =
     ∷ []
 
 pub orders-hold : Hold orders
-unfolding orders answer lookupOf mapFields headerFields editionFields extentsFrom extentFrom isCode sound pageAfter number decode
+unfolding orders answer lookupOf mapFields headerFields editionFields edition extentsFrom extentFrom isCode sound pageAfter number decode
 orders-hold = (refl, (refl, (refl, (refl, (refl, (refl, (refl, (refl, (refl, (refl, (refl, (refl, (refl, (refl, (refl, (refl, (refl, (refl, tt))))))))))))))))))

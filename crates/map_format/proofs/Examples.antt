@@ -7,7 +7,7 @@ use Rattle.base.specs.Refusal.{refusalNumber}
 use Rattle.base.specs.Codes.{isCode}
 use Rattle.varint.specs.Reader.{Read, got, refused}
 use Rattle.varint.specs.Groups.{encode, decode, number}
-use Rattle.varint.specs.Edition.{editionFields}
+use Rattle.varint.specs.Edition.{edition, editionFields}
 use Rattle.entry.specs.Pages.{virtualPage}
 use Rattle.map_format.specs.Extents.{mappedPage, pageAfter, extent, joined, extentsOf, pageAt}
 use Rattle.map_format.specs.Layout.{headerBytes, extentBytes, mapBytes}
@@ -36,7 +36,7 @@ p2 =
     ∷ []
 
 pub p2-holds : Hold p2
-unfolding p2 p2-bytes p2-pages p2-header p2-map mapBytes headerBytes extentBytes joined pageAfter encode mapFields headerFields editionFields extentsFrom extentFrom isCode sound number decode
+unfolding p2 p2-bytes p2-pages p2-header p2-map mapBytes headerBytes extentBytes joined pageAfter encode mapFields headerFields editionFields edition extentsFrom extentFrom isCode sound number decode
 p2-holds = (refl, (refl, (refl, (refl, tt))))
 
 -- 0 for a map that is taken
@@ -64,5 +64,5 @@ orders =
     ∷ []
 
 pub orders-hold : Hold orders
-unfolding orders answer answer-of pageAfter mapFields headerFields editionFields extentsFrom extentFrom isCode sound number decode
+unfolding orders answer answer-of pageAfter mapFields headerFields editionFields edition extentsFrom extentFrom isCode sound number decode
 orders-hold = (refl, (refl, (refl, (refl, (refl, (refl, (refl, (refl, (refl, (refl, tt))))))))))

@@ -13,8 +13,7 @@ use Rattle.base.specs.declared.Refusal.the-variants.{OutOfLimits}
 use Rattle.entry.specs.Pages.{virtualPage}
 use Rattle.entry.specs.declared.VirtualPage.{VirtualPage}
 use Rattle.varint.specs.Reader.{Read, got, refused, after, return}
-use Rattle.varint.specs.Edition.{editionFields}
-use Rattle.varint.specs.declared.EditionFields.{EditionFields}
+use Rattle.varint.specs.Edition.{EditionFields, editionFields}
 use Rattle.varint.proofs.Reader.{came, held, returned}
 use Rattle.map_format.specs.Reading.{inHalf, headerFields}
 use Rattle.map_format.specs.Inner.{asHeaderRead, judgedRange}

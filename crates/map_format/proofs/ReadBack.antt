@@ -12,7 +12,7 @@ use Rattle.base.specs.Notation.{if_then_else_}
 use Rattle.base.proofs.Codes.{code-small}
 use Rattle.varint.specs.Reader.{got, Reader, return}
 use Rattle.varint.specs.Groups.{encode, number}
-use Rattle.varint.specs.Edition.{editionFields}
+use Rattle.varint.specs.Edition.{edition, editionFields}
 use Rattle.varint.proofs.Forms.{round-trip}
 use Rattle.varint.proofs.Fields.{field-small}
 use Rattle.varint.proofs.Writing.{encode-length}
@@ -198,7 +198,7 @@ map-sum h es = rw (append-assoc, append-assoc, length-append, length-append, len
 
 pub map-reads : (s : List ℕ) (h : Header) (es : List Extent) → s ≡ mapBytes h es → inHalf (h .start) (h .count) ≡ true → Chain es → extentPages es ≡ h .count
     → mapFields s 0 ≡ got (record { header = h; extents = es }) (length s)
-unfolding mapFields headerFields editionFields
+unfolding mapFields headerFields editionFields edition
 map-reads s h es e half ch t =
     let start = h .start .0 in
     let count = h .count in

@@ -1,7 +1,6 @@
 // The format of a map: pages joined into extents, laid out in seven-bit groups; one builder and one reader.
 use base::Refusal;
 use entry::VirtualPage;
-use varint::EditionRead;
 use varint::Number;
 ghost use mathlib.Core.Path.{_≡_};
 ghost use mathlib.Core.List.{[], _∷_};
@@ -161,15 +160,18 @@ fn write_extent(out: &mut [u8], at: usize, e: Extent) -> usize
 pub fn read_header(s: &[u8]) -> HeaderRead
     ensures { λ r. ⌜ r ≡ asHeaderRead (headerFields (now (s .entry)) 0) ⌝ }
 {
-    match varint::read_edition_fields(s) {
-        EditionRead::Refused(refusal) => HeaderRead::Refused(refusal),
-        EditionRead::Fields(fields, next) => {
-            let header = Header {
-                start: VirtualPage::numbered(fields.first),
-                count: fields.second,
-            };
-            judge_range(header, next)
-        }
+    match varint::read_edition(s) {
+        Number::Refused(refusal) => HeaderRead::Refused(refusal),
+        Number::Value(_, a) => match varint::read_field(s, a) {
+            Number::Refused(refusal) => HeaderRead::Refused(refusal),
+            Number::Value(first, b) => match varint::read_field(s, b) {
+                Number::Refused(refusal) => HeaderRead::Refused(refusal),
+                Number::Value(count, next) => {
+                    let start = VirtualPage::numbered(first);
+                    judge_range(Header { start, count }, next)
+                }
+            },
+        },
     }
 }
 

@@ -6,7 +6,7 @@ use native.Mathlib.Omega.{arith}
 use lib.ListN.{replicate}
 use Rattle.base.specs.Codes.{isCode}
 use Rattle.varint.specs.Groups.{decode, number}
-use Rattle.varint.specs.Edition.{editionFields}
+use Rattle.varint.specs.Edition.{edition, editionFields}
 use Rattle.words.specs.Words.{wordAt}
 use Rattle.entry.specs.Pages.{frame}
 use Rattle.entry.specs.Addresses.{reachable}
@@ -28,7 +28,7 @@ pub first-right : List ℕ
 first-right = 0x01 ∷ 0x00 ∷ 0x02 ∷ 0x01 ∷ 0x02 ∷ 0x00 ∷ []
 
 map-says : lookupOf first-right 0x1000 .number ≡ 1
-unfolding first-right lookupOf mapFields headerFields editionFields extentsFrom extentFrom isCode sound pageAfter number decode
+unfolding first-right lookupOf mapFields headerFields editionFields edition extentsFrom extentFrom isCode sound pageAfter number decode
 map-says = refl
 
 walk-says : walkAnswer one-page 0x1000 .number ≡ 22

@@ -10,8 +10,7 @@ use Rattle.base.specs.Notation.{if_then_else_}
 use Rattle.base.specs.declared.Refusal.the-variants.{NumberMalformed, OutOfLimits}
 use Rattle.varint.specs.Reader.{Read, got, refused}
 use Rattle.varint.specs.Groups.{under, dec, decode, number}
-use Rattle.varint.specs.Edition.{editionFields}
-use Rattle.varint.specs.declared.EditionFields.{EditionFields}
+use Rattle.varint.specs.Edition.{edition, EditionFields, editionFields}
 use Rattle.varint.proofs.Reader.{came, held, returned}
 
 -- what is left of the groups ends after its place
@@ -44,18 +43,25 @@ field-onward s at n next e =
     let same : c .at ≡ next = returned (c .value) n (c .at) next (t .1) .1 in
     omega (arith, dec-onward 6 0 at (drop at s) (c .value) (c .at) (c .field))
 
+edition-onward : (s : List ℕ) (at n next : ℕ) → edition s at ≡ got n next → at < next
+unfolding edition
+edition-onward s at n next e =
+    let c = came s _ (number s at) n next e in
+    let t = held s _ (eqb (c .value) 1) OutOfLimits (c .at) n next (c .rest) in
+    let same : c .at ≡ next = returned (c .value) n (c .at) next (t .1) .1 in
+    omega (arith, field-onward s at (c .value) (c .at) (c .field))
+
 -- edition and two fields take three
 pub fields-onward : (s : List ℕ) (at : ℕ) (f : EditionFields) (next : ℕ) → editionFields s at ≡ got f next → at + 3 ≤ next
 unfolding editionFields
 fields-onward s at f next e =
-    let c₁ = came s _ (number s at) f next e in
-    let t₁ = held s _ (eqb (c₁ .value) 1) OutOfLimits (c₁ .at) f next (c₁ .rest) in
-    let c₂ = came s _ (number s (c₁ .at)) f next (t₁ .1) in
+    let c₁ = came s _ (edition s at) f next e in
+    let c₂ = came s _ (number s (c₁ .at)) f next (c₁ .rest) in
     let c₃ = came s _ (number s (c₂ .at)) f next (c₂ .rest) in
     let same = returned (record { first = c₂ .value; second = c₃ .value }) f (c₃ .at) next (c₃ .rest) .1 in
     omega (
       arith,
-      field-onward s at (c₁ .value) (c₁ .at) (c₁ .field),
+      edition-onward s at (c₁ .value) (c₁ .at) (c₁ .field),
       field-onward s (c₁ .at) (c₂ .value) (c₂ .at) (c₂ .field),
       field-onward s (c₂ .at) (c₃ .value) (c₃ .at) (c₃ .field),
     )

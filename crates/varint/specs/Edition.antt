@@ -1,22 +1,25 @@
 -- 01 "Case sheet", "Maps": a sheet and a map open with edition 1 and two fields.
+use Prim.Native.Nat.{ℕ}
 use lib.Dec.{eqb}
 use Rattle.base.specs.declared.Refusal.the-variants.{OutOfLimits}
 use Rattle.varint.specs.Reader.{Read, got, refused, Reader, _>>=_, _>>_, return, need}
 use Rattle.varint.specs.Groups.{number}
-use Rattle.varint.specs.declared.EditionFields.{EditionFields}
-use Rattle.varint.specs.declared.EditionRead.{EditionRead}
-use Rattle.varint.specs.declared.EditionRead.the-variants.{Fields, Refused}
 
 -- another edition is 12 before the next field is read
+unfoldable pub edition : Reader ℕ
+edition = do
+  n ← number
+  need (eqb n 1) OutOfLimits
+  return n
+
+-- the two fields after the edition
+pub record EditionFields : Type 0 where
+  pub first : ℕ
+  pub second : ℕ
+
 unfoldable pub editionFields : Reader EditionFields
 editionFields = do
-  edition ← number
-  need (eqb edition 1) OutOfLimits
+  n ← edition
   first ← number
   second ← number
   return (record { first = first; second = second })
-
--- the same, as the code hands it back
-abbrev pub asEditionRead : Read EditionFields → EditionRead
-asEditionRead (got f next) = Fields f next
-asEditionRead (refused r) = Refused r
