@@ -82,11 +82,11 @@ enough-numbers c = go (checkOf c) refl
     go (got s at) e = omega (arith, accepted-laws (c .sheet) (length (c .image)) (length (c .pagefile)) s at e .most)
     go (refused r) e = omega arith
 
--- numbers that are enough for a sheet of at most 12 bytes: it has at most 4 runs
-pub enough-for-short : (c : Case) → length (c .sheet) ≤ 12 → rowNumbers c ≤ 12
+-- numbers that are enough for a sheet of at most 8 bytes: it has at most 2 runs
+pub enough-for-short : (c : Case) → length (c .sheet) ≤ 8 → rowNumbers c ≤ 6
 enough-for-short c h = go (checkOf c) refl
   where
-    go : (d : Read Sheet) → checkOf c ≡ d → numbersOf d ≤ 12
+    go : (d : Read Sheet) → checkOf c ≡ d → numbersOf d ≤ 6
     go (got s at) e = omega (arith, few-bytes (c .sheet) (length (c .image)) (length (c .pagefile)) s at e)
     go (refused r) e = omega arith
 
