@@ -333,7 +333,7 @@ static void explain_all(void)
 int explain_verb(const struct command *command)
 {
     for (size_t i = 0; i < command->number_count; i++)
-        if (words_of(command->numbers[i]) == NULL)
+        if (glint_words(command->numbers[i]) == NULL)
             fail("no answer has the number %" PRIu64, command->numbers[i]);
     for (size_t i = 0; i < command->number_count; i++)
         report_number(command->numbers[i]);
