@@ -240,7 +240,21 @@ void end_answer(void)
     resume_progress();
 }
 
-void report_number(uint64_t number)
+/* Lines of whole words, below a number and behind its place. */
+static void put_paragraph(const char *text)
+{
+    enum { INDENT = 3, MOST_COLUMNS = 100 };
+    size_t column = MOST_COLUMNS;
+    while (*text) {
+        size_t length = strcspn(text, " ");
+        bool new_line = column + 1 + length > MOST_COLUMNS;
+        printf("%s%.*s", new_line ? "\n   " : " ", (int)length, text);
+        column = (new_line ? INDENT : column + 1) + length;
+        text += length + strspn(text + length, " ");
+    }
+}
+
+void report_number(uint64_t number, const char *explanation)
 {
     open_report();
     if (json) {
@@ -250,6 +264,12 @@ void report_number(uint64_t number)
     } else {
         printf("%2" PRIu64 " %s", number, glint_words(number));
         line_open = true;
+    }
+    if (json && explanation != NULL) {
+        put_name("explanation");
+        put_json_text(explanation);
+    } else if (explanation != NULL) {
+        put_paragraph(explanation);
     }
     end_answer();
 }
