@@ -1,7 +1,7 @@
 """The shipped case has everything: a processor block, a process list that closes, a record with a time in the pagefile."""
 from cases import PAGE, SHIPPED, make_case, sheet_of
 from library import Library
-from program import HostTest
+from program import ROOT, HostTest
 
 MOST_BYTES = 65536
 
@@ -29,19 +29,22 @@ class ShippedCase(HostTest):
     def test_process_list(self):
         self.assertGreaterEqual(len(make_case.NODES), 3)
         self.assertEqual(self.library.process_list(self.case, make_case.LIST_HEAD), (0, make_case.NODES))
-        for process, number, name in make_case.PROCESSES:
-            at = process + make_case.UNIQUE_PROCESS_ID
-            self.assertEqual(self.library.read(self.case, at, 8), (0, number.to_bytes(8, "little"), 0))
-            at = process + make_case.IMAGE_FILE_NAME
-            self.assertEqual(self.library.read(self.case, at, len(name)), (0, name, 0))
+        for process, cr3, number, name in make_case.PROCESSES:
+            for place, content in (
+                (make_case.DIRECTORY_TABLE_BASE, cr3.to_bytes(8, "little")),
+                (make_case.UNIQUE_PROCESS_ID, number.to_bytes(8, "little")),
+                (make_case.IMAGE_FILE_NAME, name),
+            ):
+                self.assertEqual(self.library.read(self.case, process + place, len(content)), (0, content, 0))
 
     def test_record_in_the_pagefile(self):
         content = make_case.record()
         number, offset, _ = self.library.resolve(self.case, make_case.RECORD)
         self.assertEqual((number, self.case[2][offset : offset + len(content)]), (2, content))
         self.assertEqual(self.library.read(self.case, make_case.RECORD, len(content)), (0, content, 0))
-        ticks = int.from_bytes(content[-8:], "little")
-        self.assertEqual(ticks, (make_case.RECORD_TIME.timestamp() + 11_644_473_600) * 10_000_000)
+        ticks, moment = int.from_bytes(content[-8:], "little"), make_case.RECORD_TIME
+        self.assertEqual(ticks, (moment.timestamp() + 11_644_473_600) * 10_000_000)
+        self.assertIn(f"0x{ticks:016X} is {moment:%d %B %Y, %H:%M:%S} UTC", (ROOT / "example").read_text())
 
     def test_record_without_the_pagefile(self):
         for pagefile in (b"", bytes(PAGE)):
