@@ -1,18 +1,5 @@
 #include "answer_numbers.h"
 
-#include <stddef.h>
-
-const char *words_of(uint64_t number)
-{
-#define WORDS(name, value, kind, words) case value: return words;
-    switch (number) {
-        GLINT_ANSWERS(WORDS)
-        GLINT_REFUSALS(WORDS)
-    }
-#undef WORDS
-    return NULL;
-}
-
 bool has_kind(uint64_t number, enum glint_kind wanted)
 {
 #define COMPARE(name, value, kind, words) case value: return GLINT_KIND_##kind == wanted;

@@ -1,4 +1,4 @@
-/* What the library's header lists about the numbers of answers. */
+/* The kinds of the numbers of answers, by the list of the library's header. */
 #ifndef ANSWER_NUMBERS_H
 #define ANSWER_NUMBERS_H
 
@@ -6,9 +6,6 @@
 
 #include <stdbool.h>
 #include <stdint.h>
-
-/* The words of a number, or NULL if no answer has it. */
-const char *words_of(uint64_t number);
 
 /* False for a number that no answer has. */
 bool has_kind(uint64_t number, enum glint_kind kind);

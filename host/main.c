@@ -35,7 +35,7 @@ static const char help_text[] =
     "glintloom lookup MAP [ADDRESS...]         what a map has for each address\n"
     "glintloom processor-block CASE [FROM]     the first processor block at image offset FROM or later\n"
     "glintloom list CASE HEAD                  the nodes of the process list with this head\n"
-    "glintloom explain [NUMBER...]             the words of each number, or of all\n"
+    "glintloom explain [NUMBER...]             what each number means and what can be done; without one, the words of all\n"
     "glintloom help                            this text\n"
     "\n"
     "CASE is SHEET IMAGE PAGEFILE, three files, or SHEET IMAGE --no-pagefile. An empty file is taken as one.\n"

@@ -115,7 +115,7 @@ void end_report(void)
 
 static void put_number(uint64_t number)
 {
-    const char *words = words_of(number);
+    const char *words = glint_words(number);
     put_json_count("number", number);
     put_name("words");
     put_json_text(words ? words : "unknown number");
@@ -131,7 +131,7 @@ void begin_item(const char *asked_name, uint64_t asked, uint64_t number)
         put_number(number);
         return;
     }
-    const char *words = words_of(number);
+    const char *words = glint_words(number);
     close_line();
     printf("0x%016" PRIX64 "  %2" PRIu64 " %s%s", asked, number, is_refusal(number) ? "refused: " : "",
            words ? words : "unknown number");
@@ -240,7 +240,21 @@ void end_answer(void)
     resume_progress();
 }
 
-void report_number(uint64_t number)
+/* Lines of whole words, below a number and behind its place. */
+static void put_paragraph(const char *text)
+{
+    enum { INDENT = 3, MOST_COLUMNS = 100 };
+    size_t column = MOST_COLUMNS;
+    while (*text) {
+        size_t length = strcspn(text, " ");
+        bool new_line = column + 1 + length > MOST_COLUMNS;
+        printf("%s%.*s", new_line ? "\n   " : " ", (int)length, text);
+        column = (new_line ? INDENT : column + 1) + length;
+        text += length + strspn(text + length, " ");
+    }
+}
+
+void report_number(uint64_t number, const char *explanation)
 {
     open_report();
     if (json) {
@@ -248,8 +262,14 @@ void report_number(uint64_t number)
         open_json('{');
         put_number(number);
     } else {
-        printf("%2" PRIu64 " %s", number, words_of(number));
+        printf("%2" PRIu64 " %s", number, glint_words(number));
         line_open = true;
+    }
+    if (json && explanation != NULL) {
+        put_name("explanation");
+        put_json_text(explanation);
+    } else if (explanation != NULL) {
+        put_paragraph(explanation);
     }
     end_answer();
 }
@@ -271,7 +291,7 @@ void report_text(const char *text)
 void warn_of_zeros(uint64_t address)
 {
     pause_progress();
-    if (fprintf(stderr, "glintloom: 0x%016" PRIX64 ": %s\n", address, words_of(GLINT_ZEROS)) < 0)
+    if (fprintf(stderr, "glintloom: 0x%016" PRIX64 ": %s\n", address, glint_words(GLINT_ZEROS)) < 0)
         fail("standard error: %s", strerror(errno));
     resume_progress();
 }

@@ -31,8 +31,8 @@ void add_digits(const uint8_t *bytes, size_t length);
 /* The end of an outermost item, which is handed on at once. */
 void end_answer(void);
 
-/* Outermost items of their own form: a number with its words, and a text. */
-void report_number(uint64_t number);
+/* Outermost items of their own form: a number with its words and, unless that is NULL, a longer text; a text alone. */
+void report_number(uint64_t number, const char *explanation);
 void report_text(const char *text);
 
 /* Tells on standard error that a page is one of zeros; ends the program with FAILED if it cannot be told. */

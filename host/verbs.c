@@ -1,6 +1,7 @@
 #include "verbs.h"
 
 #include "answer_numbers.h"
+#include "explanations.h"
 #include "fail.h"
 #include "glintloom.h"
 #include "mapped_file.h"
@@ -324,7 +325,7 @@ int list_verb(const struct command *command)
 
 static void explain_all(void)
 {
-#define EXPLAIN(name, number, kind, words) report_number(number);
+#define EXPLAIN(name, number, kind, words) report_number(number, NULL);
     GLINT_ANSWERS(EXPLAIN)
     GLINT_REFUSALS(EXPLAIN)
 #undef EXPLAIN
@@ -333,10 +334,10 @@ static void explain_all(void)
 int explain_verb(const struct command *command)
 {
     for (size_t i = 0; i < command->number_count; i++)
-        if (words_of(command->numbers[i]) == NULL)
+        if (glint_words(command->numbers[i]) == NULL)
             fail("no answer has the number %" PRIu64, command->numbers[i]);
     for (size_t i = 0; i < command->number_count; i++)
-        report_number(command->numbers[i]);
+        report_number(command->numbers[i], explanation_of(command->numbers[i]));
     if (command->number_count == 0)
         explain_all();
     return ANSWERED;

@@ -5,7 +5,15 @@
  *   - each pointer is valid for its length (NULL with length 0 is an empty slice), and each length is the true one;
  *   - `out` lies apart from the inputs;
  *   - nobody changes the inputs, or the files that they are mapped from, during the call.
- * `sheet` is the case sheet, `image` the raw memory image, `pagefile` the pagefile (length 0 if there is none). */
+ * `sheet` is the case sheet, `image` the raw memory image, `pagefile` the pagefile (length 0 if there is none).
+ *
+ * Threads: the calls keep no state, so any number of them may run at once, also over the same inputs; each needs an `out`
+ * of its own.
+ * Alignment: a uint64_t * is a multiple of 8, as C has it; bytes may lie anywhere.
+ * ABI: x86-64 System V alone; the records are handed back by value.
+ * Cost: each call on a case reads its sheet anew. A lookup reads the whole map from its start for each address, since the
+ * map's faults come first: over a long map glint_resolve is cheaper. A read, a map or a list is gone through twice, so that
+ * a refused one writes nothing; the search reads the image from `from` to the block. */
 #ifndef GLINTLOOM_H
 #define GLINTLOOM_H
 
@@ -15,6 +23,12 @@
 #ifdef __cplusplus
 extern "C" {
 #endif
+
+/* The version of this header. MAJOR, which the shared library's name carries, moves where a program that was compiled with
+ * an older header could no longer run; MINOR where only something was added; PATCH where the header stays. */
+#define GLINT_VERSION_MAJOR 1
+#define GLINT_VERSION_MINOR 0
+#define GLINT_VERSION_PATCH 0
 
 /* What the number of an answer is about. */
 enum glint_kind {
@@ -90,6 +104,14 @@ typedef struct { uint64_t number, length; } glint_written;
 
 /* number: 1, 2, 3 or 21 to 29 as the map has it, or a refusal of the lookup; offset: for 1 and 2 the addressed byte's, else 0. */
 typedef struct { uint64_t number, offset; } glint_found;
+
+/* These two are plain C and not proved; the calls after them are. Their texts stay for the whole run. */
+
+/* The version of the library that runs, as "MAJOR.MINOR.PATCH". */
+const char *glint_version(void);
+
+/* The words of a number, or NULL for a number that no answer has. */
+const char *glint_words(uint64_t number);
 
 /* Where an address leads. */
 glint_answer glint_resolve(const uint8_t *sheet, size_t sheet_length, const uint8_t *image, size_t image_length,

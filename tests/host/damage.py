@@ -1,6 +1,7 @@
 """Damaged cases and maps, run through the program and compared with what the shared library answers for them."""
 import json
 import random
+from collections import Counter
 
 from cases import PAGE, SHIPPED, block_case, list_case, make_case
 from expected import REFUSALS
@@ -43,6 +44,7 @@ class Damage:
 
     def __init__(self, directory, seed):
         self.directory, self.chance, self.library = directory, random.Random(seed), Library()
+        self.met = Counter()
         self.paths = [directory / name for name in ("sheet", "image", "pagefile")]
         self.addresses = [address for address, _, _ in make_case.ANSWERS]
         list_files, (self.list_head, *_) = list_case(directory, 5)
@@ -74,6 +76,7 @@ class Damage:
         for place_in_case in range(3):
             if self.chance.randrange(3) == 0:
                 case[place_in_case] = damaged(case[place_in_case], self.chance)
+                self.met[self.paths[place_in_case].name] += 1
         for path, content in zip(self.paths, case):
             path.write_bytes(content)
         verbs = (self.resolve, self.page, self.read, self.map, self.lookup, self.processor_block, self.list)
@@ -114,6 +117,7 @@ class Damage:
         content = damaged(self.library.map(self.shipped, start, MAP_PAGES)[1], self.chance)
         path = self.directory / "map"
         path.write_bytes(content)
+        self.met["map"] += 1
         addresses = [(start + self.chance.randrange((MAP_PAGES + 2) * PAGE)) % 2**64 for _ in range(8)]
         shown = [place(one) for one in self.run_json("lookup", path, *addresses)]
         self.expect(("lookup", addresses), shown, [self.library.lookup(content, address) for address in addresses])

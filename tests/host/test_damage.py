@@ -1,13 +1,16 @@
-"""Damaged files, a few hundred with a fixed seed (tests/fuzz has no end); the shared library; another compiler."""
+"""Damaged files and odd command lines, a few hundred with a fixed seed (tests/fuzz has no end); the shared library; another
+compiler."""
 import shutil
 import subprocess
 
 from cases import make_case, shipped_case
 from damage import Damage
 from library import Library
-from program import BUILT, ROOT, HostTest
+from misuse import Misuse
+from program import ANSWERED, BUILT, FAILED, REFUSED, ROOT, HostTest
 
 RUNS = 400
+ODD_RUNS = 200
 SEED = 1
 
 LINKED = b"""
@@ -21,6 +24,16 @@ class Damaged(HostTest):
         damage = Damage(self.directory, SEED)
         for _ in range(RUNS):
             damage.step()
+        for kind in ("sheet", "image", "pagefile", "map"):
+            self.assertGreater(damage.met[kind], RUNS // 20, kind)
+
+    def test_odd_command_lines_and_input(self):
+        misuse = Misuse(self.directory, SEED)
+        for _ in range(ODD_RUNS):
+            misuse.step()
+        for kind in ("arguments", "input"):
+            for status in (ANSWERED, REFUSED, FAILED):
+                self.assertGreater(misuse.met[f"{kind}, status {status}"], ODD_RUNS // 40, (kind, status))
 
 
 class SharedLibrary(HostTest):

@@ -1,15 +1,66 @@
-"""The README's example prints what the README shows. It runs the normal build whatever build is under test."""
+"""What README and the manual page show: the example's output, and a sheet and a map byte by byte."""
 import re
 import subprocess
 
+from cases import MACHINE_IMAGE, MACHINE_RUNS, PAGE, VALID, Memory, sheet_of
+from library import Library
 from program import BUILT, ROOT, HostTest, Program
 
+README = (ROOT / "README.md").read_text()
+MANUAL = (ROOT / "host" / "glintloom.1").read_text()
 
-class Readme(HostTest):
-    def test_example(self):
+DIRECTORY_PAGE = 0x187
+BYTES = r"(?:[0-9A-F]{2} )*[0-9A-F]{2}"
+
+
+def section(text, heading, next_heading):
+    return text.split(f"\n{heading}\n")[1].split(f"\n{next_heading}")[0]
+
+
+class Example(HostTest):
+    def test_output(self):
+        """It runs the normal build whatever build is under test."""
         if Program.path != BUILT / "glintloom":
             self.skipTest("the example has its own build")
-        section = (ROOT / "README.md").read_text().split("\n## The main job\n")[1].split("\n## ")[0]
-        shown = [line for line in re.findall(r"^    (.*)$", section, re.M) if line != "./example"]
+        shown = re.findall(r"^    (.*)$", section(README, "## The main job", "## "), re.M)
         printed = subprocess.run([ROOT / "example"], capture_output=True, text=True, check=True).stdout
-        self.assertEqual(printed.splitlines(), shown)
+        self.assertEqual(["./example", *printed.splitlines()], shown)
+        self.assertEqual(printed.count("$ glintloom "), 6)
+
+
+class ByteByByte(HostTest):
+    def shown(self, in_readme, in_manual):
+        """The bytes as a whole and by their fields, in README and in the manual page."""
+        readme, manual = section(README, f"## {in_readme}", "## "), section(MANUAL, f".SH {in_manual}", ".SH ")
+        for text, rows in ((readme, rf"^\| `({BYTES})` \|"), (manual, rf"^    ({BYTES})  +\S")):
+            whole = re.search(rf"^    ({BYTES})$", text, re.M)[1]
+            yield bytes.fromhex(whole), [bytes.fromhex(row) for row in re.findall(rows, text, re.M)]
+
+    def test_sheet(self):
+        for whole, parts in self.shown("The case sheet", "CASE SHEET"):
+            self.assertEqual(whole, sheet_of(DIRECTORY_PAGE, MACHINE_RUNS))
+            (first, pages), (second, more_pages) = MACHINE_RUNS
+            numbers = (1, DIRECTORY_PAGE, len(MACHINE_RUNS), first, pages, second - first - pages, more_pages)
+            self.assertEqual(len(parts), len(numbers))
+            for part, number in zip(parts, numbers):
+                self.assertEqual(sum((byte & 0x7F) << 7 * place for place, byte in enumerate(part)), number)
+            self.assertEqual(b"".join(parts), whole)
+        for text in (README, MANUAL):
+            self.assertIn(f"(0x9E + 0x3FEF0) * 4,096 = 0x{MACHINE_IMAGE:X} bytes", text)
+
+    def test_command_that_writes_the_sheet(self):
+        command = re.search(r"^    (printf .* >sheet)$", README, re.M)[1]
+        subprocess.run(["bash", "-c", command], cwd=self.directory, check=True)
+        self.assertEqual((self.directory / "sheet").read_bytes(), sheet_of(DIRECTORY_PAGE, MACHINE_RUNS))
+
+    def test_map(self):
+        """The map call makes these bytes of a case with two pages at 0xB10000 that are image pages 5 and 6."""
+        memory = Memory(8)
+        for address, image_page in ((0xB10000, 5), (0xB11000, 6)):
+            memory.set_entry(address, (image_page + 1) * PAGE | VALID)
+        case = [path.read_bytes() for path in memory.write(self.directory).words()]
+        number, made = Library().map(case, 0xB10000, 3)
+        for whole, parts in self.shown("Maps", "MAPS"):
+            self.assertEqual((number, made), (0, whole))
+            self.assertEqual(list(map(len, parts)), [1, 2, 1, 3, 2])
+            self.assertEqual(b"".join(parts), whole)

@@ -1,7 +1,7 @@
 """Every verb: what it prints for answers and for refusals."""
 from cases import PAGE, RING_PAGES, SHIPPED, Memory, make_case
 from cases import block_case, list_case, printed_machine, ring_case, shipped_case
-from expected import REFUSALS, SHIPPED_MAP, WORDS, done, dump, first_at, place, shipped_answers, shipped_lines
+from expected import SHIPPED_MAP, WORDS, done, dump, first_at, place, shipped_answers, shipped_lines
 from program import ANSWERED, REFUSED, HostTest, run
 
 class Resolve(HostTest):
@@ -238,11 +238,25 @@ class BlocksAndLists(HostTest):
 
 class ExplainAndHelp(HostTest):
     def test_every_number(self):
-        lines = [f"{number:2} {words}" for number, words in WORDS.items()]
-        self.says(["explain"], ANSWERED, lines)
-        for number, line in zip(WORDS, lines):
-            self.says(["explain", number], ANSWERED, [line])
-        self.says(["explain", "0x16", "10"], ANSWERED, ["22 region record needed", f"10 {REFUSALS[10]}"])
+        self.says(["explain"], ANSWERED, [f"{number:2} {words}" for number, words in WORDS.items()])
+        explained = [run("explain", number).stdout for number in WORDS]
+        self.assertEqual(run("explain", *WORDS).stdout, b"".join(explained))
+        self.assertEqual(run("explain", "0x16").stdout, run("explain", "22").stdout)
+
+    def test_every_number_is_explained(self):
+        """Below its words, two or three sentences of its own in lines of whole words; in JSON the same text."""
+        texts = set()
+        for number, words in WORDS.items():
+            first, *rest = run("explain", number).stdout.decode().splitlines()
+            self.assertEqual(first, f"{number:2} {words}")
+            for line in rest:
+                self.assertRegex(line, r"\A   \S.{,95}\S\Z")
+            text = " ".join(line.strip() for line in rest)
+            self.assertRegex(text, r"\A([A-Z][^.]*\.( |\Z)){2,3}\Z")
+            shown = self.answers("explain", number)
+            self.assertEqual(shown, [{"number": number, "words": words, "explanation": text}])
+            texts.add(text)
+        self.assertEqual(len(texts), len(WORDS))
 
     def test_numbers_that_no_answer_has(self):
         for number in (4, 9, 17, 30, 42, 46, 54, 56, 99, 2**32 + 22, 2**64 - 1):
