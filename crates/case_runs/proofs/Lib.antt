@@ -1,0 +1,4 @@
+pub mod Turning
+pub mod Rows
+pub mod Answers
+pub mod Examples
