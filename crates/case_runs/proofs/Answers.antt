@@ -1,7 +1,7 @@
 -- What the call hands back, after a reading over an empty part of the buffer and one over the part that the runs take.
 use mathlib.Core.Path.{_≡_, refl, sym, ap, _∙_}
 use mathlib.Core.List.{List, [], _∷_, _++_, append-nil}
-use Prim.Native.Nat.{ℕ, _+_, _*_, _/_, _<_, _≤_}
+use Prim.Native.Nat.{ℕ, _+_, _*_, _<_, _≤_}
 use native.Mathlib.Nat.{zero-add}
 use native.Mathlib.Omega.{arith}
 use lib.ListN.{length, take, drop}
@@ -97,16 +97,16 @@ module _ (bytes : List ℕ) (image pagefile : ℕ) (old last : List ℕ) (r : Sh
     q : Accepts bytes image pagefile h
     q = accepts bytes image pagefile [] r last p h f
 
-    pub short-buffer : length (last ++ old) / 3 < h .count → (a : CaseRead) → a ≡ caseRefusal ListBufferShort → record { answer = a; buffer = last ++ old } ≡ caseRunsOf bytes image pagefile old
+    pub short-buffer : length (last ++ old) < 3 * h .count → (a : CaseRead) → a ≡ caseRefusal ListBufferShort → record { answer = a; buffer = last ++ old } ≡ caseRunsOf bytes image pagefile old
     short-buffer l a g = rw whole (no-room bytes image pagefile old (q .sheet) (q .at) (q .check) (omega (arith, l, ap length whole, q .many)) a g)
 
     -- the second lays the rows over the front of the buffer, which they fill
-    module _ (room : h .count ≤ length (last ++ old) / 3) (r₂ : SheetRead) (rows : List ℕ)
+    module _ (room : 3 * h .count ≤ length (last ++ old)) (r₂ : SheetRead) (rows : List ℕ)
         (p₂ : SheetAnswer (sheetOf bytes image pagefile) (take (3 * h .count) (last ++ old)) r₂ rows) where
       rows-are : rows ≡ rowsFrom 0 (q .sheet .runs)
       rows-are =
           let laid : rows ≡ sets (take (3 * h .count) (last ++ old)) 0 (rowsFrom 0 (q .sheet .runs)) = rw (q .check) at (p₂ .rows) in
-          let long : length (take (3 * h .count) (last ++ old)) ≡ 3 * h .count = length-take-le (3 * h .count) (last ++ old) (omega (arith, room)) in
+          let long : length (take (3 * h .count) (last ++ old)) ≡ 3 * h .count = length-take-le (3 * h .count) (last ++ old) room in
           laid ∙ laid-over (take (3 * h .count) (last ++ old)) (rowsFrom 0 (q .sheet .runs)) (omega (arith, long, rows-long 0 (q .sheet .runs), q .many))
 
       rows-many : length rows ≡ 3 * h .count

@@ -10,7 +10,7 @@ slice-relend-prefix-read-sheet : tie.Need-slice-relend-prefix-read-sheet
 slice-relend-prefix-read-sheet c = search needs
 
 slice-aggregate-read-sheet : tie.Need-slice-aggregate-read-sheet
-slice-aggregate-read-sheet c = search needs
+slice-aggregate-read-sheet c = simp length-take (omega arith)
 
 read-sheet-requires : tie.Need-read-sheet-requires
 read-sheet-requires c κs = search needs
@@ -33,7 +33,7 @@ same-length c = search needs
 returns : tie.Need-returns
 returns c =
     let at-read = c .before .before .before .before .before .before .before in
-    short-buffer _ _ _ _ _ _ (at-read .read-sheet .ensures) (at-read .read-sheet .kept .1 .1 .1 .0) _ (c .before .before .before .header .given .1) (c .before .if1 .taken) _ (c .refuse2 .ensures)
+    short-buffer _ _ _ _ _ _ (at-read .read-sheet .ensures) (at-read .read-sheet .kept .1 .1 .1 .0) _ (c .before .before .before .header .given .1) (omega (arith, c .before .if1 .taken)) _ (c .refuse2 .ensures)
 
 mul-n : tie.Need-mul-n
 mul-n c = search needs
@@ -59,7 +59,7 @@ rows-to-runs-requires c κs =
     let at-header = at-second .before .before .before .before in
     let at-read = at-header .before .before .before .before in
     ordered _ _ _ _ _ _ (at-read .read-sheet .ensures) (at-read .read-sheet .kept .1 .1 .1 .0) _ (at-header .header .given .1)
-    (at-second .before .before .if1 .left) _ _ (at-second .read-sheet2 .ensures)
+    (omega (arith, at-second .before .before .if1 .left)) _ _ (at-second .read-sheet2 .ensures)
 
 number-requires : tie.Need-number-requires
 number-requires c κs = search needs
@@ -82,7 +82,7 @@ returns-3 c =
     let at-header = at-second .before .before .before .before in
     let at-read = at-header .before .before .before .before in
     handed-back _ _ _ _ _ _ (at-read .read-sheet .ensures) (at-read .read-sheet .kept .1 .1 .1 .0) _ (at-header .header .given .1)
-    (at-second .before .before .if1 .left) _ _ (at-second .read-sheet2 .ensures)
+    (omega (arith, at-second .before .before .if1 .left)) _ _ (at-second .read-sheet2 .ensures)
     _ (at-turn .rows-to-runs .ensures) _ (c .number .ensures)
 
 pub case-runs-spec : {M : Type 1} → statement M

@@ -46,7 +46,7 @@ slice-read-skipped c =
 sub-rows : tie.Need-sub-rows Inv-loop μ-loop
 sub-rows c =
     let here = row (c .before .before .before .before .loop .inv) (c .before .before .before .loop-test .taken) in
-    omega (arith, here .rising, first-read here, end-read here)
+    omega (arith, here .rising, here .fewer, first-read here, end-read here, skipped-read here)
 
 add-rows : tie.Need-add-rows Inv-loop μ-loop
 add-rows c = search needs
@@ -62,7 +62,7 @@ slice-write-rows c =
 sub-rows-2 : tie.Need-sub-rows-2 Inv-loop μ-loop
 sub-rows-2 c =
     let here = row (c .before .before .before .before .loop .inv) (c .before .before .before .loop-test .taken) in
-    omega (arith, here .fewer, first-read here, skipped-read here)
+    omega (arith, here .rising, here .fewer, first-read here, end-read here, skipped-read here)
 
 add-rows-2 : tie.Need-add-rows-2 Inv-loop μ-loop
 add-rows-2 c = search needs
@@ -86,7 +86,7 @@ loop-less c =
 loop-again : tie.Need-loop-again Inv-loop μ-loop
 loop-again c =
     let here = row (c .before .before .before .before .loop .inv) (c .before .before .before .loop-test .taken) in
-    turned here _ _ (rw (first-read here, end-read here)) (rw (first-read here, skipped-read here))
+    turned here _ _ (omega (arith, first-read here, end-read here, skipped-read here)) (omega (arith, first-read here, end-read here, skipped-read here))
 
 same-length : tie.Need-same-length Inv-loop μ-loop
 same-length c = search needs
