@@ -87,7 +87,7 @@ typedef struct { uint64_t number, length, zeros; } glint_bytes;
 /* file: 1 image, 2 pagefile, 0 the empty part (then offset and length are 0). */
 typedef struct { uint64_t file, offset, length; } glint_part;
 
-/* number: 0, or a refusal (then length is 0); length: elements of `out` written. */
+/* number: 0, or a refusal (then length is 0); length: elements of `out` written, or of glint_image_length bytes. */
 typedef struct { uint64_t number, length; } glint_written;
 
 /* number: 0, or a refusal (then directory and length are 0); directory: the frame of the top table; length: runs. */
@@ -136,6 +136,10 @@ glint_written glint_process_list(const uint8_t *sheet, size_t sheet_length, cons
  * 64-bit numbers: 53 exactly if three a run are more. Numbers past them stay. */
 glint_case_read glint_case(const uint8_t *sheet, size_t sheet_length, uint64_t image_length, uint64_t pagefile_length,
                            uint64_t *out, size_t out_length);
+
+/* The length in bytes that a sheet asks of its image, or the sheet's own fault, 10 to 14: what glint_case compares with
+ * image_length for 15. */
+glint_written glint_image_length(const uint8_t *sheet, size_t sheet_length);
 
 #ifdef __cplusplus
 }

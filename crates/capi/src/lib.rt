@@ -6,7 +6,7 @@ use case_runs::CaseRead;
 use lookup::Found;
 use reading::BytesRead;
 ghost use mathlib.Core.Path.{_≡_};
-ghost use Rattle.case_runs.specs.Call.{caseRunsOf};
+ghost use Rattle.case_runs.specs.Call.{caseRunsOf, imageLengthOf};
 ghost use Rattle.case.specs.Case.{caseOf};
 ghost use Rattle.address.specs.Page.{partBytes};
 ghost use Rattle.address.specs.Call.{AddressAnswer, PageAnswer, PageBytesAnswer};
@@ -103,4 +103,11 @@ pub extern "C" fn glint_case(
     ensures { λ r. ⌜ record { answer = r; buffer = now (out .exit) } ≡ caseRunsOf (now (sheet .entry)) «image_length» «pagefile_length» (now (out .entry)) ⌝ }
 {
     case_runs::case_runs(sheet, image_length, pagefile_length, out)
+}
+
+#[no_mangle]
+pub extern "C" fn glint_image_length(sheet: &[u8]) -> Written
+    ensures { λ r. ⌜ r ≡ imageLengthOf (now (sheet .entry)) ⌝ }
+{
+    case_runs::image_length(sheet)
 }

@@ -94,35 +94,39 @@ module _ (bytes : List ℕ) (image pagefile : ℕ) (old last : List ℕ) (r : Sh
   refused-sheet x f a g = rw (refuses bytes image pagefile [] r last p x f, g, whole)
 
   module _ (h : Header) (f : r ≡ sheet-read.Accepted h) where
+    -- the numbers that the runs take
+    abbrev n : ℕ
+    n = 3 * h .count
+
     q : Accepts bytes image pagefile h
     q = accepts bytes image pagefile [] r last p h f
 
-    pub short-buffer : length (last ++ old) < 3 * h .count → (a : CaseRead) → a ≡ caseRefusal ListBufferShort → record { answer = a; buffer = last ++ old } ≡ caseRunsOf bytes image pagefile old
+    pub short-buffer : length (last ++ old) < n → (a : CaseRead) → a ≡ caseRefusal ListBufferShort → record { answer = a; buffer = last ++ old } ≡ caseRunsOf bytes image pagefile old
     short-buffer l a g = rw whole (no-room bytes image pagefile old (q .sheet) (q .at) (q .check) (omega (arith, l, ap length whole, q .many)) a g)
 
     -- the second lays the rows over the front of the buffer, which they fill
-    module _ (room : 3 * h .count ≤ length (last ++ old)) (r₂ : SheetRead) (rows : List ℕ)
-        (p₂ : SheetAnswer (sheetOf bytes image pagefile) (take (3 * h .count) (last ++ old)) r₂ rows) where
+    module _ (room : n ≤ length (last ++ old)) (r₂ : SheetRead) (rows : List ℕ)
+        (p₂ : SheetAnswer (sheetOf bytes image pagefile) (take n (last ++ old)) r₂ rows) where
       rows-are : rows ≡ rowsFrom 0 (q .sheet .runs)
       rows-are =
-          let laid : rows ≡ sets (take (3 * h .count) (last ++ old)) 0 (rowsFrom 0 (q .sheet .runs)) = rw (q .check) at (p₂ .rows) in
-          let long : length (take (3 * h .count) (last ++ old)) ≡ 3 * h .count = length-take-le (3 * h .count) (last ++ old) room in
-          laid ∙ laid-over (take (3 * h .count) (last ++ old)) (rowsFrom 0 (q .sheet .runs)) (omega (arith, long, rows-long 0 (q .sheet .runs), q .many))
+          let laid : rows ≡ sets (take n (last ++ old)) 0 (rowsFrom 0 (q .sheet .runs)) = rw (q .check) at (p₂ .rows) in
+          let long : length (take n (last ++ old)) ≡ n = length-take-le n (last ++ old) room in
+          laid ∙ laid-over (take n (last ++ old)) (rowsFrom 0 (q .sheet .runs)) (omega (arith, long, rows-long 0 (q .sheet .runs), q .many))
 
-      rows-many : length rows ≡ 3 * h .count
+      rows-many : length rows ≡ n
       rows-many = omega (arith, ap length rows-are, rows-long 0 (q .sheet .runs), q .many)
 
-      front : take (3 * h .count) (rows ++ drop (3 * h .count) (last ++ old)) ≡ rowsFrom 0 (q .sheet .runs)
-      front = take-at rows (drop (3 * h .count) (last ++ old)) (3 * h .count) rows-many ∙ rows-are
+      front : take n (rows ++ drop n (last ++ old)) ≡ rowsFrom 0 (q .sheet .runs)
+      front = take-at rows (drop n (last ++ old)) n rows-many ∙ rows-are
 
-      pub ordered : RowsInOrder (take (3 * h .count) (rows ++ drop (3 * h .count) (last ++ old)))
+      pub ordered : RowsInOrder (take n (rows ++ drop n (last ++ old)))
       ordered = rw front (rows-in-order 0 0 0 (q .sheet .runs) (q .laws .chain) (omega arith))
 
-      pub handed-back : (new : List ℕ) → new ≡ runsOfRows (take (3 * h .count) (rows ++ drop (3 * h .count) (last ++ old))) → (directory : ℕ) → directory ≡ h .space .directory .0
-          → record { answer = record { number = 0; directory = directory; length = h .count }; buffer = new ++ drop (3 * h .count) (rows ++ drop (3 * h .count) (last ++ old)) } ≡ caseRunsOf bytes image pagefile old
+      pub handed-back : (new : List ℕ) → new ≡ runsOfRows (take n (rows ++ drop n (last ++ old))) → (directory : ℕ) → directory ≡ h .space .directory .0
+          → record { answer = record { number = 0; directory = directory; length = h .count }; buffer = new ++ drop n (rows ++ drop n (last ++ old)) } ≡ caseRunsOf bytes image pagefile old
       handed-back new e directory g =
           let numbers : new ≡ runNumbers 0 (q .sheet .runs) = e ∙ rw front (rows-turned 0 0 0 (q .sheet .runs) (q .laws .chain) (omega arith)) in
-          let rest : drop (3 * h .count) (rows ++ drop (3 * h .count) (last ++ old)) ≡ drop (3 * h .count) old =
-          drop-at rows (drop (3 * h .count) (last ++ old)) (3 * h .count) rows-many ∙ rw whole in
-          let fits : 3 * h .count ≤ length old = omega (arith, room, ap length whole) in
+          let rest : drop n (rows ++ drop n (last ++ old)) ≡ drop n old =
+          drop-at rows (drop n (last ++ old)) n rows-many ∙ rw whole in
+          let fits : n ≤ length old = omega (arith, room, ap length whole) in
           all-runs bytes image pagefile old (q .sheet) (q .at) (q .check) (h .count) (q .many) fits _ _ numbers rest directory (g ∙ q .directory)

@@ -1,4 +1,5 @@
 pub mod Turning
 pub mod Rows
 pub mod Answers
+pub mod Length
 pub mod Examples

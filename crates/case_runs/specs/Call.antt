@@ -1,4 +1,4 @@
--- What the call on a case's runs hands back. It is our own, beside the calls of 01.
+-- What the calls on a case's sheet hand back. They are our own, beside those of 01.
 use Prim.Native.Nat.{ℕ, _+_, _*_}
 use mathlib.Core.List.{List, [], _∷_}
 use lib.Dec.{ltb}
@@ -8,8 +8,10 @@ use Rattle.base.specs.Notation.{if_then_else_}
 use Rattle.base.specs.Refusal.{refusalNumber}
 use Rattle.base.specs.declared.Refusal.{Refusal}
 use Rattle.base.specs.declared.Refusal.the-variants.{ListBufferShort}
-use Rattle.varint.specs.Reader.{Read, got, refused}
-use Rattle.sheet.specs.Sheet.{Sheet, sheetOf}
+use Rattle.base.specs.Written.{notWritten}
+use Rattle.base.specs.declared.Written.{Written}
+use Rattle.varint.specs.Reader.{Read, got, refused, Reader, _>>=_, _>>_, return, ended}
+use Rattle.sheet.specs.Sheet.{header, runsFrom, runPages, Sheet, sheetOf}
 use Rattle.sheet.specs.declared.Run.{Run}
 use Rattle.case_runs.specs.declared.CaseRead.{CaseRead}
 
@@ -46,3 +48,18 @@ checkedRuns out (got s at) = listed out s
 -- the sheet and the two lengths are checked first
 unfoldable pub caseRunsOf : List ℕ → ℕ → ℕ → List ℕ → CaseOutcome
 caseRunsOf bytes image pagefile out = checkedRuns out (sheetOf bytes image pagefile)
+
+-- the bytes that a sheet asks of its image: its fields, without the lengths of the two files
+unfoldable pub imageBytes : Reader ℕ
+imageBytes = do
+  h ← header
+  runs ← runsFrom (h .count) 0 0
+  ended
+  return (4096 * runPages runs)
+
+abbrev pub lengthRead : Read ℕ → Written
+lengthRead (got n at) = record { number = 0; length = n }
+lengthRead (refused r) = notWritten r
+
+unfoldable pub imageLengthOf : List ℕ → Written
+imageLengthOf bytes = lengthRead (imageBytes bytes 0)

@@ -1,8 +1,11 @@
 // What a case's sheet says, in numbers: the directory page, and where each run lies in physical memory and in the image.
 use base::Refusal;
+use base::Written;
+use sheet::HeaderRead;
+use sheet::RunsRead;
 use sheet::SheetRead;
 ghost use mathlib.Core.Path.{_≡_};
-ghost use Rattle.case_runs.specs.Call.{caseRefusal, caseRunsOf};
+ghost use Rattle.case_runs.specs.Call.{caseRefusal, caseRunsOf, imageLengthOf};
 ghost use Rattle.case_runs.specs.Inner.{RowsInOrder, runsOfRows};
 
 // 01's number, or 53 for a buffer too short; the directory page and how many runs there are.
@@ -34,6 +37,29 @@ pub fn case_runs(sheet: &[u8], image: u64, pagefile: u64, out: &mut [u64]) -> Ca
                 number: 0,
                 directory: directory.number(),
                 length: count as u64,
+            }
+        }
+    }
+}
+
+// The length in bytes that a sheet asks of its image.
+pub fn image_length(sheet: &[u8]) -> Written
+    ensures { λ r. ⌜ r ≡ imageLengthOf (now (sheet .entry)) ⌝ }
+{
+    match sheet::read_header(sheet) {
+        HeaderRead::Refused(refusal) => base::not_written(refusal),
+        HeaderRead::Fields(header, at) => {
+            let mut rows = [0u64; 1];
+            let none = 0;
+            match sheet::read_runs(sheet, at, header.count, &mut rows[..none]) {
+                RunsRead::Refused(refusal) => base::not_written(refusal),
+                RunsRead::Laid(pages, end) => {
+                    if end != sheet.len() {
+                        return base::not_written(Refusal::TrailingBytes);
+                    }
+                    let length = 4096 * pages;
+                    Written { number: 0, length }
+                }
             }
         }
     }

@@ -33,7 +33,8 @@ same-length c = search needs
 returns : tie.Need-returns
 returns c =
     let at-read = c .before .before .before .before .before .before .before in
-    short-buffer _ _ _ _ _ _ (at-read .read-sheet .ensures) (at-read .read-sheet .kept .1 .1 .1 .0) _ (c .before .before .before .header .given .1) (omega (arith, c .before .if1 .taken)) _ (c .refuse2 .ensures)
+    short-buffer _ _ _ _ _ _ (at-read .read-sheet .ensures) (at-read .read-sheet .kept .1 .1 .1 .0) _ (c .before .before .before .header .given .1)
+    (omega (arith, c .before .if1 .taken)) _ (c .refuse2 .ensures)
 
 mul-n : tie.Need-mul-n
 mul-n c = search needs
