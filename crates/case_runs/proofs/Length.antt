@@ -6,7 +6,7 @@ use Prim.Native.Nat.{ℕ, _*_, _%_, _^_, _≤_}
 use native.Mathlib.Omega.{arith}
 use lib.Dec.{eqb}
 use lib.ListN.{length}
-use borrow.Author.Tests.{eq-eqb, ne-eqb}
+use borrow.Author.Tests.{eq-eqb, ne-eqb, eqb-false}
 use Rattle.base.specs.Notation.{if_then_else_}
 use Rattle.base.specs.Refusal.{refusalNumber}
 use Rattle.base.specs.Written.{notWritten}
@@ -19,6 +19,7 @@ use Rattle.sheet.specs.declared.Header.{Header}
 use Rattle.sheet.specs.declared.Run.{Run}
 use Rattle.sheet.proofs.WholeSheet.{RunsFound}
 use Rattle.case_runs.specs.Call.{imageBytes, imageLengthOf}
+use Rattle.case_runs.proofs.Faults.{OwnFault, own-faults}
 
 module _ (s : List ℕ) where
   pub no-header : (r : Refusal) → header s 0 ≡ refused r → (w : Written) → w ≡ notWritten r → w ≡ imageLengthOf s
@@ -79,3 +80,26 @@ module _ (s : List ℕ) (image pagefile : ℕ) where
 
   pub case-by-length : sheet-number (sheetOf s image pagefile) ≡ by-length image pagefile (imageBytes s 0)
   case-by-length = at-header (header s 0) refl
+
+-- for 15 there is a length that the sheet asks for, and the image has another
+pub record AsksAnother (s : List ℕ) (image : ℕ) : Type 0 where
+  pub bytes : ℕ
+  pub at : ℕ
+  pub asked : imageBytes s 0 ≡ got bytes at
+  pub other : image ≡ bytes → ⊥
+
+pub fifteen : (s : List ℕ) (image pagefile : ℕ) → sheet-number (sheetOf s image pagefile) ≡ 15 → AsksAnother s image
+fifteen s image pagefile e = go (imageBytes s 0) refl (own-faults s 0) (sym (case-by-length s image pagefile) ∙ e)
+  where
+    two : (b : Bool) → _≡_ {A = ℕ} (if not b then 16 else 0) 15 → ⊥
+    two true g = omega (arith, g)
+    two false g = omega (arith, g)
+
+    at-length : (n at : ℕ) (a : Bool) → imageBytes s 0 ≡ got n at → eqb image n ≡ a
+        → _≡_ {A = ℕ} (if not a then 15 else if not (eqb (pagefile % 4096) 0) then 16 else 0) 15 → AsksAnother s image
+    at-length n at true f x g = absurd (two (eqb (pagefile % 4096) 0) g)
+    at-length n at false f x g = record { bytes = n; at = at; asked = f; other = eqb-false image n x }
+
+    go : (d : Read ℕ) → imageBytes s 0 ≡ d → OwnFault d → by-length image pagefile d ≡ 15 → AsksAnother s image
+    go (got n at) f h g = at-length n at (eqb image n) f refl g
+    go (refused r) f h g = absurd (omega (arith, h, g))
