@@ -1,4 +1,5 @@
 /* The program: judges the command line and hands it to its verb. */
+#include "case_verb.h"
 #include "fail.h"
 #include "numbers.h"
 #include "progress.h"
@@ -28,6 +29,7 @@ struct verb {
 static const char help_text[] =
     "glintloom - where the addresses of a Windows memory image lead\n"
     "\n"
+    "glintloom case CASE                       the directory page, the runs and the lengths of a case\n"
     "glintloom resolve CASE [ADDRESS...]       where each address leads\n"
     "glintloom page CASE [ADDRESS...]          the 4,096 bytes of each address's page\n"
     "glintloom read CASE ADDRESS LENGTH        LENGTH bytes, all or none\n"
@@ -64,6 +66,7 @@ static int help_verb(const struct command *command)
 }
 
 static const struct verb verbs[] = {
+    {"case", 3, 0, 0, NO_PAGEFILE, case_verb},
     {"resolve", 3, 0, ANY_COUNT, NO_PAGEFILE, resolve_verb},
     {"page", 3, 0, ANY_COUNT, NO_PAGEFILE | OUTPUT, page_verb},
     {"read", 3, 2, 2, NO_PAGEFILE | OUTPUT, read_verb},

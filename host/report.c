@@ -193,6 +193,51 @@ void add_nodes(const uint64_t *nodes, uint64_t count)
         printf("0x%016" PRIX64 "\n", nodes[i]);
 }
 
+void begin_number(uint64_t number)
+{
+    open_report();
+    if (json) {
+        put_comma();
+        open_json('{');
+        put_number(number);
+        return;
+    }
+    const char *words = words_of(number);
+    close_line();
+    printf("%2" PRIu64 " %s%s", number, is_refusal(number) ? "refused: " : "", words ? words : "unknown number");
+    line_open = true;
+}
+
+void begin_range(uint64_t start, uint64_t last)
+{
+    if (json) {
+        put_comma();
+        open_json('{');
+        put_json_hex("start", start);
+        put_json_hex("last", last);
+        return;
+    }
+    close_line();
+    printf("0x%016" PRIX64 " to 0x%016" PRIX64, start, last);
+    line_open = true;
+}
+
+void add_value(const char *name, const char *words, uint64_t value)
+{
+    if (json)
+        put_json_hex(name, value);
+    else
+        printf(", %s 0x%" PRIX64, words, value);
+}
+
+void add_count(const char *name, uint64_t count, const char *word)
+{
+    if (json)
+        put_json_count(name, count);
+    else
+        printf(", %" PRIu64 " %s%s", count, word, count == 1 ? "" : "s");
+}
+
 void end_item(void)
 {
     if (json)

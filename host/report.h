@@ -20,6 +20,14 @@ void add_refused_address(uint64_t address);
 void add_nodes(const uint64_t *nodes, uint64_t count);
 void end_item(void);
 
+/* Items of other forms: the number alone, and a range of physical memory, whose last byte is `last`. */
+void begin_number(uint64_t number);
+void begin_range(uint64_t start, uint64_t last);
+
+/* A value in hex and a count, by the name in JSON and in words; a count's words are those of one. */
+void add_value(const char *name, const char *words, uint64_t value);
+void add_count(const char *name, uint64_t count, const char *word);
+
 /* Items of the item at hand. */
 void begin_items(const char *name);
 void end_items(void);

@@ -83,7 +83,9 @@ enum { GLINT_ANSWERS(GLINT_ENUMERATOR) GLINT_REFUSALS(GLINT_ENUMERATOR) GLINT_FI
 enum {
     GLINT_PAGE_BYTES = 4096,
     GLINT_MAP_PAGES = 1 << 20,     /* a map's range has at most these */
-    GLINT_LIST_PROCESSES = 4096    /* a list has at most these, so `out` of this length is never too short */
+    GLINT_LIST_PROCESSES = 4096,   /* a list has at most these, so `out` of this length is never too short */
+    GLINT_CASE_RUNS = 32,          /* a case has at most these */
+    GLINT_CASE_NUMBERS = 3 * GLINT_CASE_RUNS    /* `out` of this length is never too short for a case's runs */
 };
 
 /* No map is longer: 1, 6 and 3 bytes before the extents, then at most 8 bytes a page (code 1, length 1, first page 6). */
@@ -99,8 +101,11 @@ typedef struct { uint64_t number, length, zeros; } glint_bytes;
 /* file: 1 image, 2 pagefile, 0 the empty part (then offset and length are 0). */
 typedef struct { uint64_t file, offset, length; } glint_part;
 
-/* number: 0, or a refusal (then length is 0); length: elements of `out` written. */
+/* number: 0, or a refusal (then length is 0); length: elements of `out` written, or of glint_image_length bytes. */
 typedef struct { uint64_t number, length; } glint_written;
+
+/* number: 0, or a refusal (then directory and length are 0); directory: the frame of the top table; length: runs. */
+typedef struct { uint64_t number, directory, length; } glint_case_read;
 
 /* number: 1, 2, 3 or 21 to 29 as the map has it, or a refusal of the lookup; offset: for 1 and 2 the addressed byte's, else 0. */
 typedef struct { uint64_t number, offset; } glint_found;
@@ -147,6 +152,16 @@ glint_answer glint_processor_block(const uint8_t *sheet, size_t sheet_length, co
 glint_written glint_process_list(const uint8_t *sheet, size_t sheet_length, const uint8_t *image, size_t image_length,
                                  const uint8_t *pagefile, size_t pagefile_length, uint64_t head,
                                  uint64_t *out, size_t out_length);
+
+/* What the sheet of a case says, checked with the lengths of its two files: the directory page, and for each run three
+ * numbers into `out`: first frame, pages, and image page, which is how many pages the runs before it have. out_length counts
+ * 64-bit numbers: 53 exactly if three a run are more. Numbers past them stay. */
+glint_case_read glint_case(const uint8_t *sheet, size_t sheet_length, uint64_t image_length, uint64_t pagefile_length,
+                           uint64_t *out, size_t out_length);
+
+/* The length in bytes that a sheet asks of its image, or the sheet's own fault, 10 to 14: what glint_case compares with
+ * image_length for 15. */
+glint_written glint_image_length(const uint8_t *sheet, size_t sheet_length);
 
 #ifdef __cplusplus
 }

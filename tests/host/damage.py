@@ -79,8 +79,17 @@ class Damage:
                 self.met[self.paths[place_in_case].name] += 1
         for path, content in zip(self.paths, case):
             path.write_bytes(content)
-        verbs = (self.resolve, self.page, self.read, self.map, self.lookup, self.processor_block, self.list)
+        verbs = (self.case, self.resolve, self.page, self.read, self.map, self.lookup, self.processor_block, self.list)
         self.chance.choice(verbs)(case)
+
+    def case(self, case):
+        shown = self.run_json("case", *self.paths)[0]
+        runs = [tuple(int(run[name], 16) // PAGE for name in ("start", "last", "image_offset")) for run in shown.get("runs", [])]
+        runs = [(first, last + 1 - first, page) for first, last, page in runs]
+        answered = (shown["number"], int(shown.get("directory_page", "0"), 16), runs)
+        self.expect(("case",), answered, self.library.case(case))
+        asked = int(shown.get("asked_length", "0"), 16)
+        self.expect(("case",), asked, self.library.image_length(case[0])[1])
 
     def resolve(self, case):
         addresses = [self.address() for _ in range(8)]

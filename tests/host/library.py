@@ -14,6 +14,8 @@ RETURNS = {
     "glint_lookup": 2,
     "glint_processor_block": 3,
     "glint_process_list": 2,
+    "glint_case": 3,
+    "glint_image_length": 2,
 }
 
 
@@ -67,3 +69,13 @@ class Library:
         room = (U64 * 4096)()
         number, length = self.call("glint_process_list", case, head, room, SIZE(len(room)))
         return number, list(room[:length])
+
+    def case(self, case):
+        """Number, directory page and runs as (first frame, pages, image page)."""
+        sheet, image, pagefile = case
+        room = (U64 * 96)()
+        number, directory, runs = self.call("glint_case", [sheet], len(image), len(pagefile), room, SIZE(len(room)))
+        return number, directory, [tuple(room[3 * k : 3 * k + 3]) for k in range(runs)]
+
+    def image_length(self, sheet):
+        return self.call("glint_image_length", [sheet])

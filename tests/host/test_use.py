@@ -15,6 +15,7 @@ TOO_LARGE = ("18446744073709551616", "0x10000000000000000", "9999999999999999999
 
 # Each verb that takes a case, with numbers that it takes.
 CASE_VERBS = {
+    "case": [],
     "resolve": ["0"],
     "page": ["0"],
     "read": ["0", "1"],
@@ -49,6 +50,7 @@ class WrongUse(HostTest):
         for words in (
             ["resolve"],
             ["resolve", *self.case[:2]],
+            ["case", *self.case[:2]],
             ["resolve", "--no-pagefile", self.case[0]],
             ["page", *self.case[:2]],
             ["read", *self.case],

@@ -12,7 +12,7 @@ pub const IMAGE_LENGTH_WRONG: Refusal = 15;
 /// The pagefile length is not a multiple of 4,096.
 pub const PAGEFILE_LENGTH_WRONG: Refusal = 16;
 
-const PAGE_BYTES: u64 = 4096;
+pub const PAGE_BYTES: u64 = 4096;
 
 /// Frames that lie in the image one after another.
 #[derive(Clone, Copy)]
@@ -23,7 +23,7 @@ pub struct Run {
 
 impl Run {
     /// The frame behind the run's last one.
-    fn end(&self) -> u64 {
+    pub fn end(&self) -> u64 {
         self.first_frame + self.pages
     }
 }
@@ -36,7 +36,7 @@ pub struct Case {
 }
 
 impl Case {
-    fn pages(&self) -> u64 {
+    pub fn pages(&self) -> u64 {
         self.runs.iter().map(|run| run.pages).sum()
     }
 }
@@ -56,6 +56,17 @@ pub fn check_sheet(
     let pagefile_wrong = !pagefile_length_agrees(pagefile_length, slip);
     judge_after_fields(trailing, image_wrong, pagefile_wrong, slip)?;
     Ok(case)
+}
+
+/// What a sheet says by itself, whatever the lengths of the files; or its first fault.
+pub fn read_sheet(sheet: &[u8]) -> Result<Case, Refusal> {
+    let mut numbers = Numbers::new(sheet, Slip::None);
+    let mut case = Case::default();
+    read_fields(&mut numbers, &mut case, Slip::None)?;
+    match numbers.at_end() {
+        true => Ok(case),
+        false => Err(BYTES_AFTER_LAST_FIELD),
+    }
 }
 
 /// The bytes of all runs that stand before the sheet's first fault.

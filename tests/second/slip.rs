@@ -343,6 +343,37 @@ slips! {
         ListLengthInBytes
         ListClearsRest
     ;
+
+    /// The faults in telling what a case's sheet says.
+    CASE_SLIPS:
+        RoomBeforeSheet
+        RoomBeforeFileLengths
+        ExactRunRoomRefused
+        RunRoomOneShortTaken
+        TwoNumbersARunEnough
+        RunRoomIs45
+        FileLengthsSwapped
+        FirstFrameInBytes
+        EndForPages
+        ImagePageNotSummed
+        ImagePageWithOwnPages
+        ImagePageWithGaps
+        ImagePageInBytes
+        LastRunDropped
+        RunsNotInOrder
+        DirectoryDropped
+        DirectoryOnRefusal
+        RunLengthInNumbers
+        RunLengthOnRefusal
+        RunsWrittenBeforeRefusal
+        RunsClearRest
+        AskedLengthInPages
+        AskedLengthOfFirstRun
+        AskedLengthWithGaps
+        AskedLengthIn32Bits
+        AskedTrailingTaken
+        AskedLengthOnRefusal
+    ;
 }
 
 /// The slip of this list with this name.

@@ -2,9 +2,11 @@
 use address::Part;
 use base::Written;
 use case::Answer;
+use case_runs::CaseRead;
 use lookup::Found;
 use reading::BytesRead;
 ghost use mathlib.Core.Path.{_≡_};
+ghost use Rattle.case_runs.specs.Call.{caseRunsOf, imageLengthOf};
 ghost use Rattle.case.specs.Case.{caseOf};
 ghost use Rattle.address.specs.Page.{partBytes};
 ghost use Rattle.address.specs.Call.{AddressAnswer, PageAnswer, PageBytesAnswer};
@@ -88,4 +90,24 @@ pub extern "C" fn glint_process_list(
     ensures { λ r. ⌜ ListAnswer (caseOf (now (sheet .entry)) (now (image .entry)) (now (pagefile .entry))) head (now (out .entry)) r (now (out .exit)) ⌝ }
 {
     process_list::process_list(sheet, image, pagefile, head, out)
+}
+
+// Of the two files it takes the lengths alone.
+#[no_mangle]
+pub extern "C" fn glint_case(
+    sheet: &[u8],
+    image_length: u64,
+    pagefile_length: u64,
+    out: &mut [u64],
+) -> CaseRead
+    ensures { λ r. ⌜ record { answer = r; buffer = now (out .exit) } ≡ caseRunsOf (now (sheet .entry)) «image_length» «pagefile_length» (now (out .entry)) ⌝ }
+{
+    case_runs::case_runs(sheet, image_length, pagefile_length, out)
+}
+
+#[no_mangle]
+pub extern "C" fn glint_image_length(sheet: &[u8]) -> Written
+    ensures { λ r. ⌜ r ≡ imageLengthOf (now (sheet .entry)) ⌝ }
+{
+    case_runs::image_length(sheet)
 }

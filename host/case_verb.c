@@ -1,0 +1,61 @@
+#include "case_verb.h"
+
+#include "answer_numbers.h"
+#include "asked_length.h"
+#include "fail.h"
+#include "glintloom.h"
+#include "mapped_file.h"
+#include "report.h"
+
+/* The numbers of a run, as glint_case writes them. */
+struct run {
+    uint64_t first_frame, pages, image_page;
+};
+
+static struct run run_at(const uint64_t *numbers, uint64_t index)
+{
+    struct run run = {numbers[3 * index], numbers[3 * index + 1], numbers[3 * index + 2]};
+    return run;
+}
+
+static void report_runs(const uint64_t *numbers, uint64_t count)
+{
+    begin_items("runs");
+    for (uint64_t i = 0; i < count; i++) {
+        struct run run = run_at(numbers, i);
+        uint64_t start = run.first_frame * GLINT_PAGE_BYTES;
+        begin_range(start, start + run.pages * GLINT_PAGE_BYTES - 1);
+        add_value("image_offset", "image offset", run.image_page * GLINT_PAGE_BYTES);
+        add_count("pages", run.pages, "page");
+        end_item();
+    }
+    end_items();
+}
+
+int case_verb(const struct command *command)
+{
+    struct mapped_file sheet = map_file(command->files[0]), image = map_file(command->files[1]);
+    struct mapped_file pagefile = {NULL, 0};
+    if (command->files[2] != NULL)
+        pagefile = map_file(command->files[2]);
+    uint64_t asked, numbers[GLINT_CASE_NUMBERS];
+    glint_case_read read =
+        glint_case(sheet.bytes, sheet.length, image.length, pagefile.length, numbers, GLINT_CASE_NUMBERS);
+    bool accepted = !is_refusal(read.number), asks = asked_image_length(sheet, &asked);
+    check_mapped_files();
+    begin_number(read.number);
+    if (accepted) {
+        struct run last = run_at(numbers, read.length - 1);
+        add_value("directory_page", "directory page", read.directory);
+        add_count("run_count", read.length, "run");
+        add_count("pages", last.image_page + last.pages, "page");
+    }
+    if (asks)
+        add_value("asked_length", "image length asked for", asked);
+    add_value("image_length", "image length", image.length);
+    add_value("pagefile_length", "pagefile length", pagefile.length);
+    if (accepted)
+        report_runs(numbers, read.length);
+    end_answer();
+    return accepted ? ANSWERED : REFUSED;
+}
