@@ -202,7 +202,7 @@ void begin_number(uint64_t number)
         put_number(number);
         return;
     }
-    const char *words = words_of(number);
+    const char *words = glint_words(number);
     close_line();
     printf("%2" PRIu64 " %s%s", number, is_refusal(number) ? "refused: " : "", words ? words : "unknown number");
     line_open = true;
