@@ -2,9 +2,9 @@
 
 #include "answer_numbers.h"
 #include "asked_length.h"
+#include "case_files.h"
 #include "fail.h"
 #include "glintloom.h"
-#include "mapped_file.h"
 #include "report.h"
 
 /* The numbers of a run, as glint_case writes them. */
@@ -34,14 +34,11 @@ static void report_runs(const uint64_t *numbers, uint64_t count)
 
 int case_verb(const struct command *command)
 {
-    struct mapped_file sheet = map_file(command->files[0]), image = map_file(command->files[1]);
-    struct mapped_file pagefile = {NULL, 0};
-    if (command->files[2] != NULL)
-        pagefile = map_file(command->files[2]);
+    struct case_files files = map_case(command->files);
     uint64_t asked, numbers[GLINT_CASE_NUMBERS];
     glint_case_read read =
-        glint_case(sheet.bytes, sheet.length, image.length, pagefile.length, numbers, GLINT_CASE_NUMBERS);
-    bool accepted = !is_refusal(read.number), asks = asked_image_length(sheet, &asked);
+        glint_case(files.sheet.bytes, files.sheet.length, files.image.length, files.pagefile.length, numbers, GLINT_CASE_NUMBERS);
+    bool accepted = !is_refusal(read.number), asks = asked_image_length(files.sheet, &asked);
     check_mapped_files();
     begin_number(read.number);
     if (accepted) {
@@ -52,8 +49,8 @@ int case_verb(const struct command *command)
     }
     if (asks)
         add_value("asked_length", "image length asked for", asked);
-    add_value("image_length", "image length", image.length);
-    add_value("pagefile_length", "pagefile length", pagefile.length);
+    add_value("image_length", "image length", files.image.length);
+    add_value("pagefile_length", "pagefile length", files.pagefile.length);
     if (accepted)
         report_runs(numbers, read.length);
     end_answer();

@@ -28,7 +28,7 @@ void clean_up(void)
         steps[i]();
 }
 
-static void clean_up_and_end(int signal_number)
+void end_by_signal(int signal_number)
 {
     clean_up();
     signal(signal_number, SIG_DFL);
@@ -46,7 +46,7 @@ static bool ends_by_default(int signal_number)
 
 void clean_up_on_signals(void)
 {
-    struct sigaction before, action = {.sa_handler = clean_up_and_end};
+    struct sigaction before, action = {.sa_handler = end_by_signal};
     for (int number = 1; number <= SIGRTMAX; number++)
         if (ends_by_default(number) && sigaction(number, NULL, &before) == 0 && before.sa_handler == SIG_DFL)
             sigaction(number, &action, NULL);

@@ -8,6 +8,9 @@ void add_cleanup(void (*step)(void));
 /* Runs the steps in the order in which they were added. May be called from a signal handler. */
 void clean_up(void);
 
+/* Cleans up and lets the signal at hand end the program; for its handler. */
+void end_by_signal(int signal_number);
+
 /* Cleans up before a signal ends the program, too; one that is ignored or handled stays so. */
 void clean_up_on_signals(void);
 

@@ -5,7 +5,7 @@
 #include <stddef.h>
 #include <stdint.h>
 
-/* Lines of an address, 16 bytes and the same bytes as ASCII. */
+/* Lines of an address, 16 bytes and the same bytes as ASCII; * for rows as the one before them, but never for the last. */
 void print_hex_dump(uint64_t address, const uint8_t *bytes, size_t length);
 
 /* Two digits a byte and nothing between. */

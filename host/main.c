@@ -1,162 +1,81 @@
 /* The program: judges the command line and hands it to its verb. */
-#include "case_verb.h"
+#include "arguments.h"
 #include "fail.h"
+#include "help.h"
+#include "memory.h"
 #include "numbers.h"
+#include "output_file.h"
 #include "progress.h"
 #include "report.h"
-#include "verbs.h"
+#include "verb_table.h"
 
 #include <fcntl.h>
 #include <signal.h>
 #include <stdio.h>
 #include <stdlib.h>
 #include <string.h>
+#include <sys/stat.h>
 #include <unistd.h>
 
-/* Options that only some verbs take. */
-enum { NO_PAGEFILE = 1, OUTPUT = 2, ALL = 4 };
-
-enum { ANY_COUNT = -1 };
-
-struct verb {
-    const char *name;
-    int files;                         /* 3 is a case: sheet, image and pagefile */
-    int fewest_numbers, most_numbers;  /* operands behind the files */
-    int options;
-    int (*run)(const struct command *command);
-};
-
-static const char help_text[] =
-    "glintloom - where the addresses of a Windows memory image lead\n"
-    "\n"
-    "glintloom case CASE                       the directory page, the runs and the lengths of a case\n"
-    "glintloom resolve CASE [ADDRESS...]       where each address leads\n"
-    "glintloom page CASE [ADDRESS...]          the 4,096 bytes of each address's page\n"
-    "glintloom read CASE ADDRESS LENGTH        LENGTH bytes, all or none\n"
-    "glintloom map CASE START PAGES            the map of a range of pages\n"
-    "glintloom lookup MAP [ADDRESS...]         what a map has for each address\n"
-    "glintloom processor-block CASE [FROM]     the first processor block at image offset FROM or later\n"
-    "glintloom list CASE HEAD                  the nodes of the process list with this head\n"
-    "glintloom explain [NUMBER...]             what each number means and what can be done; without one, the words of all\n"
-    "glintloom help                            this text\n"
-    "\n"
-    "CASE is SHEET IMAGE PAGEFILE, three files, or SHEET IMAGE --no-pagefile. An empty file is taken as one.\n"
-    "Numbers are hex (0x..) or decimal, of 64 bits. With [ADDRESS...] left out, addresses are read from standard\n"
-    "input, one to a line; blank lines are skipped.\n"
-    "\n"
-    "  -o FILE        page (one address), read, map: raw bytes into FILE, which is made whole or not at all\n"
-    "  --no-pagefile  the case has no pagefile\n"
-    "  --all          processor-block: every block from FROM on\n"
-    "  --json         one JSON document; addresses, offsets and lengths are strings in hex\n"
-    "  --             what follows is no option\n"
-    "\n"
-    "A page of zeros is filled in where the tables say so, and is marked in words: on standard error with -o.\n"
-    "A refusal is shown with its number and words; no byte is shown and no file is made for it. A refused read also\n"
-    "names the first address that is refused.\n"
-    "The files must not be changed while the program runs.\n"
-    "\n"
-    "Exit status: 0 answered; 1 refused, also if only one of several addresses is; 2 wrong use, a file that cannot\n"
-    "be had or written, or lack of memory: then what stands on standard output may not be all.\n";
-
-static int help_verb(const struct command *command)
+static void check_options(const struct verb *verb, const struct arguments *arguments)
 {
-    (void)command;
-    report_text(help_text);
-    return ANSWERED;
+    int others = arguments->options & ~verb->options & ~OPTIONS_OF_EVERY_VERB;
+    for (size_t i = 0; i < option_count; i++)
+        if ((options[i].option & others) != 0)
+            fail("%s takes no %s", verb->name, options[i].name);
 }
 
-static const struct verb verbs[] = {
-    {"case", 3, 0, 0, NO_PAGEFILE, case_verb},
-    {"resolve", 3, 0, ANY_COUNT, NO_PAGEFILE, resolve_verb},
-    {"page", 3, 0, ANY_COUNT, NO_PAGEFILE | OUTPUT, page_verb},
-    {"read", 3, 2, 2, NO_PAGEFILE | OUTPUT, read_verb},
-    {"map", 3, 2, 2, NO_PAGEFILE | OUTPUT, map_verb},
-    {"lookup", 1, 0, ANY_COUNT, 0, lookup_verb},
-    {"processor-block", 3, 0, 1, NO_PAGEFILE | ALL, processor_block_verb},
-    {"list", 3, 1, 1, NO_PAGEFILE, list_verb},
-    {"explain", 0, 0, ANY_COUNT, 0, explain_verb},
-    {"help", 0, 0, 0, 0, help_verb},
-};
-
-static const struct verb *verb_named(const char *name)
+static bool is_folder(const char *name)
 {
-    if (strcmp(name, "--help") == 0 || strcmp(name, "-h") == 0)
-        name = "help";
-    for (size_t i = 0; i < sizeof verbs / sizeof verbs[0]; i++)
-        if (strcmp(name, verbs[i].name) == 0)
-            return &verbs[i];
-    fail("no verb '%s'; 'glintloom help' lists them", name);
+    struct stat status;
+    return stat(name, &status) == 0 && S_ISDIR(status.st_mode);
 }
 
-/* A command line as it is read: options gone, operands one after the other. */
-struct arguments {
-    char **operands;
-    int operand_count;
-    int options;
-    const char *output;
-    bool json;
-};
-
-static int option_named(const char *name)
+/* Names the files of a case that is one folder. */
+static void name_files_in(const char *folder, int count, char **files)
 {
-    if (strcmp(name, "--no-pagefile") == 0)
-        return NO_PAGEFILE;
-    if (strcmp(name, "-o") == 0)
-        return OUTPUT;
-    if (strcmp(name, "--all") == 0)
-        return ALL;
-    fail("no option '%s'; 'glintloom help' lists them", name);
-}
-
-/* Moves the operands to the front of `words`. */
-static struct arguments split(const struct verb *verb, char **words, int count)
-{
-    struct arguments arguments = {words, 0, 0, NULL, false};
-    bool options_over = false;
+    static const char *const names[FILES_OF_CASE] = {"sheet", "image", "pagefile"};
     for (int i = 0; i < count; i++) {
-        if (options_over || words[i][0] != '-') {
-            words[arguments.operand_count++] = words[i];
-        } else if (strcmp(words[i], "--") == 0) {
-            options_over = true;
-        } else if (strcmp(words[i], "--json") == 0) {
-            arguments.json = true;
-        } else {
-            int option = option_named(words[i]);
-            if ((option & verb->options) == 0)
-                fail("%s takes no %s", verb->name, words[i]);
-            if (option == OUTPUT && (++i == count || arguments.output != NULL))
-                fail("-o takes one file");
-            if (option == OUTPUT)
-                arguments.output = words[i];
-            arguments.options |= option;
-        }
+        size_t length = strlen(folder) + 1 + strlen(names[i]);
+        files[i] = allocate(length + 1, 1);
+        snprintf(files[i], length + 1, "%s/%s", folder, names[i]);
     }
-    return arguments;
+}
+
+/* Names the verb's files; gives the count of operands that this takes. */
+static int name_files(const struct verb *verb, const struct arguments *arguments, char **files)
+{
+    int count = verb->files - ((arguments->options & NO_PAGEFILE) != 0);
+    if (verb->files == FILES_OF_CASE && arguments->operand_count > 0 && is_folder(arguments->operands[0])) {
+        name_files_in(arguments->operands[0], count, files);
+        return 1;
+    }
+    for (int i = 0; i < count && i < arguments->operand_count; i++)
+        files[i] = arguments->operands[i];
+    return count;
 }
 
 static void parse_operands(struct command *command, char **operands, int count)
 {
-    command->numbers = calloc((size_t)count + 1, sizeof *command->numbers);
-    if (command->numbers == NULL)
-        fail("not enough memory");
+    command->numbers = allocate((uint64_t)count, sizeof *command->numbers);
     command->number_count = (size_t)count;
-    for (int i = 0; i < count; i++)
-        if (!parse_number(operands[i], strlen(operands[i]), &command->numbers[i]))
-            fail("'%s': no number in hex (0x..) or decimal of 64 bits", operands[i]);
+    for (int i = 0; i < count; i++) {
+        const char *fault = parse_number(operands[i], strlen(operands[i]), &command->numbers[i]);
+        if (fault != NULL)
+            fail("'%s': %s", operands[i], fault);
+    }
 }
 
 static struct command judge(const struct verb *verb, const struct arguments *arguments)
 {
     struct command command = {.output = arguments->output, .all = (arguments->options & ALL) != 0};
-    int files = verb->files - ((arguments->options & NO_PAGEFILE) != 0);
+    int files = name_files(verb, arguments, command.files);
     int numbers = arguments->operand_count - files;
     if (numbers < verb->fewest_numbers || (verb->most_numbers != ANY_COUNT && numbers > verb->most_numbers))
-        fail("%s: too %s operands; 'glintloom help' lists them", verb->name,
-             numbers < verb->fewest_numbers ? "few" : "many");
-    if (verb->most_numbers == ANY_COUNT && command.output != NULL && numbers != 1)
+        fail("%s: too %s operands; 'glintloom help %s' lists them", verb->name,
+             numbers < verb->fewest_numbers ? "few" : "many", verb->name);
+    if (takes_addresses(verb) && command.output != NULL && numbers != 1)
         fail("%s: -o takes exactly one address", verb->name);
-    for (int i = 0; i < files; i++)
-        command.files[i] = arguments->operands[i];
     parse_operands(&command, arguments->operands + files, numbers);
     return command;
 }
@@ -170,26 +89,71 @@ static void hold_standard_descriptors(void)
             exit(FAILED);
 }
 
-int main(int count, char **words)
+static int report_about_program(const struct arguments *arguments, const struct verb *topic)
 {
-    hold_standard_descriptors();
-    /* A write that fails is told by its error. */
-    signal(SIGPIPE, SIG_IGN);
-    signal(SIGXFSZ, SIG_IGN);
-    if (count < 2) {
-        fputs(help_text, stderr);
-        return FAILED;
-    }
-    const struct verb *verb = verb_named(words[1]);
-    struct arguments arguments = split(verb, words + 2, count - 2);
-    struct command command = judge(verb, &arguments);
-    bool from_input = verb->files > 0 && verb->most_numbers == ANY_COUNT && command.number_count == 0;
+    bool about_version = (arguments->options & VERSION) != 0;
+    char *text = NULL;
+    size_t length;
+    FILE *stream = open_memstream(&text, &length);
+    if (stream == NULL)
+        fail("not enough memory");
+    if (about_version)
+        print_version(stream);
+    else
+        print_help(stream, topic);
+    if (fclose(stream) != 0)
+        fail("not enough memory");
+    begin_report(about_version ? "version" : "help", (arguments->options & JSON) != 0);
+    report_text(text);
+    end_report();
+    free(text);
+    return ANSWERED;
+}
+
+/* `help`, whose operand is a verb. */
+static int help_on_operand(const struct verb *help, const struct arguments *arguments)
+{
+    check_options(help, arguments);
+    if (arguments->operand_count > 1)
+        fail("help: too many operands; it takes one verb");
+    return report_about_program(arguments, arguments->operand_count == 1 ? verb_named(arguments->operands[0]) : NULL);
+}
+
+static int run(const struct verb *verb, const struct arguments *arguments)
+{
+    if (arguments->output != NULL && is_standard_output(arguments->output))
+        report_on_standard_error();
+    begin_report(verb->name, (arguments->options & JSON) != 0);
+    check_options(verb, arguments);
+    struct command command = judge(verb, arguments);
+    bool from_input = takes_addresses(verb) && command.number_count == 0;
     if (!from_input || !isatty(STDIN_FILENO))
         start_progress();
-    begin_report(verb->name, arguments.json);
     int status = verb->run(&command);
     end_progress();
     end_report();
     free(command.numbers);
     return status;
+}
+
+int main(int count, char **words)
+{
+    hold_standard_descriptors();
+    /* A write past a limit is told by its error. */
+    signal(SIGXFSZ, SIG_IGN);
+    struct arguments arguments = split_words(words + 1, count - 1);
+    bool about_program = (arguments.options & (HELP | VERSION)) != 0;
+    if (arguments.operand_count == 0 && !about_program) {
+        print_help(stderr, NULL);
+        return FAILED;
+    }
+    const struct verb *verb = NULL;
+    if (arguments.operand_count > 0) {
+        verb = verb_named(arguments.operands[0]);
+        arguments.operands++;
+        arguments.operand_count--;
+    }
+    if (about_program)
+        return report_about_program(&arguments, verb);
+    return verb->run == NULL ? help_on_operand(verb, &arguments) : run(verb, &arguments);
 }

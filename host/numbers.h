@@ -6,8 +6,10 @@
 #include <stddef.h>
 #include <stdint.h>
 
-/* Reads hex (0x..) or decimal, nothing before or behind it; false if it is neither or does not fit 64 bits. */
-bool parse_number(const char *text, size_t length, uint64_t *number);
+/* Reads a number of 64 bits, nothing before or behind it: hex as 0x.., as 16 digits with a letter among them or as a
+ * debugger writes it, with a backquote before the last 8 digits; else decimal. Gives NULL, or what is wrong in words. What
+ * could be meant as hex or as decimal, since it begins with 0 or has 16 digits, is wrong. */
+const char *parse_number(const char *text, size_t length, uint64_t *number);
 
 /* Addresses of the command line or, if it has none, of standard input, one to a line. */
 struct addresses {
@@ -20,7 +22,8 @@ struct addresses {
 
 struct addresses addresses_of(const uint64_t *given, size_t given_count);
 
-/* The next address; false behind the last. Ends the program with FAILED at a line that is no address. */
-bool next_address(struct addresses *addresses, uint64_t *address);
+/* Takes the next addresses: waits for one, and takes the others that are there already, up to `most`. Gives their count, 0
+ * behind the last. Ends the program with FAILED at a line that is no address, once those before it were taken. */
+size_t next_addresses(struct addresses *addresses, uint64_t *taken, size_t most);
 
 #endif

@@ -4,6 +4,7 @@
 #include "fail.h"
 #include "mapped_file.h"
 
+#include <dirent.h>
 #include <errno.h>
 #include <fcntl.h>
 #include <limits.h>
@@ -42,6 +43,29 @@ static bool write_all(int descriptor, const uint8_t *bytes, size_t length)
         length -= (size_t)written;
     }
     return true;
+}
+
+static int bytes_descriptor = -1;    /* standard output as it was, once the report goes elsewhere */
+
+bool is_standard_output(const char *name)
+{
+    return strcmp(name, "-") == 0;
+}
+
+void report_on_standard_error(void)
+{
+    bytes_descriptor = fcntl(STDOUT_FILENO, F_DUPFD_CLOEXEC, STDERR_FILENO + 1);
+    if (bytes_descriptor < 0 || dup2(STDERR_FILENO, STDOUT_FILENO) < 0)
+        fail_to_write("standard output");
+}
+
+static void write_to_standard_output(const uint8_t *bytes, size_t length)
+{
+    struct stat status;
+    if (fstat(bytes_descriptor, &status) == 0 && is_mapped_file(&status))
+        fail("standard output: is an input file, and is not written over");
+    if (!write_all(bytes_descriptor, bytes, length) || close(bytes_descriptor) != 0)
+        fail_to_write("standard output");
 }
 
 static void write_directly(const char *name, const uint8_t *bytes, size_t length)
@@ -116,33 +140,57 @@ static bool is_descriptor(int descriptor, const struct stat *status)
     return fstat(descriptor, &open_file) == 0 && open_file.st_dev == status->st_dev && open_file.st_ino == status->st_ino;
 }
 
-/* Whether this is a name such as /dev/fd/3: what is open there is not to be replaced by another file. */
-static bool names_a_descriptor(const char *name)
+/* A regular file is written by a rename, which would leave whoever has it open with the old file. */
+static void refuse_if_open(const char *name, const struct stat *status)
 {
-    struct stat link, proc;
-    return lstat(name, &link) == 0 && S_ISLNK(link.st_mode) && stat("/proc/self", &proc) == 0 &&
-           link.st_dev == proc.st_dev;
+    static const char folder[] = "/proc/self/fd";
+    DIR *descriptors = opendir(folder);
+    if (descriptors == NULL)
+        fail("%s: which files are open is not known, as %s cannot be read: %s", name, folder, strerror(errno));
+    for (struct dirent *entry; (entry = readdir(descriptors)) != NULL;)
+        if (entry->d_name[0] != '.' && is_descriptor(atoi(entry->d_name), status))
+            fail("%s: is open on descriptor %s, and is not replaced", name, entry->d_name);
+    closedir(descriptors);
 }
 
-void write_output_file(const char *name, const uint8_t *bytes, size_t length)
+static bool is_null_device(const struct stat *status)
+{
+    struct stat null;
+    return stat("/dev/null", &null) == 0 && S_ISCHR(null.st_mode) && S_ISCHR(status->st_mode) &&
+           null.st_rdev == status->st_rdev;
+}
+
+/* Bytes do not go where addresses come from, nor among the report or the messages. The null device keeps none. */
+static void refuse_if_standard(const char *name, const struct stat *status)
+{
+    static const char *const words[] = {"standard input", "standard output, which -o - writes to", "standard error"};
+    for (int descriptor = STDIN_FILENO; descriptor <= STDERR_FILENO; descriptor++)
+        if (is_descriptor(descriptor, status) && !is_null_device(status))
+            fail("%s: is %s", name, words[descriptor]);
+}
+
+static void write_named(const char *name, const uint8_t *bytes, size_t length)
 {
     struct stat status;
     if (stat(name, &status) != 0) {
         if (errno != ENOENT || name[0] == '\0')
             fail_to_write(name);
         write_new(name, bytes, length);
-        return;
-    }
-    if (is_mapped_file(&status))
+    } else if (is_mapped_file(&status)) {
         fail("%s: is an input file, and is not written over", name);
-    if (is_descriptor(STDOUT_FILENO, &status))
-        fail("%s: is standard output", name);
-    if (is_descriptor(STDERR_FILENO, &status))
-        fail("%s: is standard error", name);
-    if (!S_ISREG(status.st_mode))
-        write_directly(name, bytes, length);
-    else if (names_a_descriptor(name))
-        fail("%s: names a descriptor of a regular file", name);
-    else
+    } else if (S_ISREG(status.st_mode)) {
+        refuse_if_open(name, &status);
         replace(name, &status, bytes, length);
+    } else {
+        refuse_if_standard(name, &status);
+        write_directly(name, bytes, length);
+    }
+}
+
+void write_output_file(const char *name, const uint8_t *bytes, size_t length)
+{
+    if (is_standard_output(name))
+        write_to_standard_output(bytes, length);
+    else
+        write_named(name, bytes, length);
 }

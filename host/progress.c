@@ -70,6 +70,7 @@ void start_progress(void)
         return;
     sigaction(SIGALRM, &action, NULL);
     add_cleanup(end_progress);
+    clean_up_on_signals();
     running = true;
     set_timer(1);
 }

@@ -1,21 +1,26 @@
 #include "report.h"
 
 #include "answer_numbers.h"
+#include "cleanup.h"
 #include "fail.h"
 #include "hex_dump.h"
 #include "progress.h"
 
 #include <errno.h>
 #include <inttypes.h>
+#include <signal.h>
 #include <stdio.h>
 #include <string.h>
 #include <unistd.h>
 
 static bool json;
+static bool on_terminal;
 static const char *verb_reported;
-static bool report_open;  /* JSON: the document has begun */
-static bool comma_due;    /* JSON: something stands before in this object or array */
-static bool line_open;    /* lines: the item's line has no end yet */
+static bool document_open;  /* JSON: {"verb": .. stands */
+static bool answers_open;   /* JSON: "answers":[ stands */
+static bool comma_due;      /* JSON: something stands before in this object or array */
+static bool line_open;      /* lines: the item's line has no end yet */
+static volatile sig_atomic_t between_answers;   /* JSON: some were handed on, and none was begun since */
 
 static void check_output(bool written)
 {
@@ -81,28 +86,61 @@ static void close_line(void)
     line_open = false;
 }
 
+static void open_document(void)
+{
+    /* A JSON document is one line, which a line of progress would wipe out. */
+    if (on_terminal && json)
+        end_progress();
+    else if (on_terminal)
+        pause_progress();
+    between_answers = false;
+    if (document_open || !json)
+        return;
+    document_open = true;
+    open_json('{');
+    put_name("verb");
+    put_json_text(verb_reported);
+}
+
+static void open_report(void)
+{
+    open_document();
+    if (answers_open || !json)
+        return;
+    answers_open = true;
+    put_name("answers");
+    open_json('[');
+}
+
+/* Nothing but standard output itself fails while an item is open, so the answers can be closed. */
+static void put_failure(const char *message)
+{
+    open_report();
+    close_json(']');
+    put_name("error");
+    put_json_text(message);
+    fputs("}\n", stdout);
+}
+
+/* For a signal that ends the program while it waits or works. One that comes within an answer cuts the document. */
+static void close_document_for_signal(void)
+{
+    static const char end[] = "],\"error\":\"ended by a signal\"}\n";
+    ssize_t written = between_answers ? write(STDOUT_FILENO, end, sizeof end - 1) : 0;
+    (void)written;
+    between_answers = false;
+}
+
 void begin_report(const char *verb, bool as_json)
 {
     verb_reported = verb;
     json = as_json;
-}
-
-/* Begins the document with the first answer, so that wrong use leaves standard output empty. */
-static void open_report(void)
-{
-    /* A JSON document is one line, which a line of progress would wipe out. */
-    if (isatty(STDOUT_FILENO) && json)
-        end_progress();
-    else if (isatty(STDOUT_FILENO))
-        pause_progress();
-    if (report_open || !json)
+    on_terminal = isatty(STDOUT_FILENO);
+    if (!json)
         return;
-    report_open = true;
-    open_json('{');
-    put_name("verb");
-    put_json_text(verb_reported);
-    put_name("answers");
-    open_json('[');
+    tell_failure_to(put_failure);
+    add_cleanup(close_document_for_signal);
+    clean_up_on_signals();
 }
 
 void end_report(void)
@@ -110,6 +148,7 @@ void end_report(void)
     open_report();
     if (json)
         fputs("]}\n", stdout);
+    tell_failure_to(NULL);
     check_output(fflush(stdout) == 0 && close(STDOUT_FILENO) == 0);
 }
 
@@ -121,21 +160,40 @@ static void put_number(uint64_t number)
     put_json_text(words ? words : "unknown number");
 }
 
+static void begin_line(const char *first_column, uint64_t number)
+{
+    const char *words = glint_words(number);
+    close_line();
+    printf("%-18s  %2" PRIu64 " %s%s", first_column, number, is_refusal(number) ? "refused: " : "",
+           words ? words : "unknown number");
+    line_open = true;
+}
+
 void begin_item(const char *asked_name, uint64_t asked, uint64_t number)
 {
+    char column[sizeof "0x0123456789ABCDEF"];
     open_report();
     if (json) {
         put_comma();
         open_json('{');
         put_json_hex(asked_name, asked);
         put_number(number);
-        return;
+    } else {
+        snprintf(column, sizeof column, "0x%016" PRIX64, asked);
+        begin_line(column, number);
     }
-    const char *words = glint_words(number);
-    close_line();
-    printf("0x%016" PRIX64 "  %2" PRIu64 " %s%s", asked, number, is_refusal(number) ? "refused: " : "",
-           words ? words : "unknown number");
-    line_open = true;
+}
+
+void begin_worded_item(const char *word, uint64_t number)
+{
+    open_report();
+    if (json) {
+        put_comma();
+        open_json('{');
+        put_number(number);
+    } else {
+        begin_line(word, number);
+    }
 }
 
 void add_offset(uint64_t number, uint64_t offset)
@@ -168,6 +226,27 @@ void add_refused_address(uint64_t address)
         put_json_hex("refused_address", address);
     else
         printf(", first at 0x%016" PRIX64, address);
+}
+
+void add_start(uint64_t offset)
+{
+    if (json)
+        put_json_hex("from", offset);
+    else
+        printf(", from 0x%" PRIX64, offset);
+}
+
+void add_block(uint64_t self, uint64_t directory_word)
+{
+    uint64_t directory_page = directory_word >> 12 & 0xFFFFFFFFF;    /* bits 12-47 */
+    if (json) {
+        put_json_hex("self", self);
+        put_json_hex("directory_page", directory_page);
+        put_json_hex("cr3", directory_word);
+    } else {
+        printf(", Self 0x%016" PRIX64 ", directory page 0x%09" PRIX64 ", CR3 0x%016" PRIX64, self, directory_page,
+               directory_word);
+    }
 }
 
 static void put_json_nodes(const uint64_t *nodes, uint64_t count)
@@ -281,8 +360,38 @@ void end_answer(void)
 {
     end_item();
     count_answer();
+}
+
+void hand_on_answers(void)
+{
     check_output(fflush(stdout) == 0);
+    between_answers = json;
     resume_progress();
+}
+
+void begin_fault(const char *name, uint64_t number)
+{
+    open_document();
+    if (json) {
+        put_name(name);
+        open_json('{');
+        put_number(number);
+    } else {
+        begin_line(name, number);
+    }
+}
+
+void add_file_length(const char *name, const char *words, uint64_t bytes)
+{
+    if (json)
+        put_json_hex(name, bytes);
+    else
+        printf(", %s 0x%" PRIX64 " bytes", words, bytes);
+}
+
+void end_fault(void)
+{
+    end_item();
 }
 
 /* Lines of whole words, below a number and behind its place. */
@@ -333,10 +442,10 @@ void report_text(const char *text)
     end_answer();
 }
 
-void warn_of_zeros(uint64_t address)
+void warn_of_zeros(uint64_t address, uint64_t bytes)
 {
     pause_progress();
-    if (fprintf(stderr, "glintloom: 0x%016" PRIX64 ": %s\n", address, glint_words(GLINT_ZEROS)) < 0)
+    if (!note("0x%016" PRIX64 ": %s, 0x%" PRIX64 " bytes", address, glint_words(GLINT_ZEROS), bytes))
         fail("standard error: %s", strerror(errno));
     resume_progress();
 }

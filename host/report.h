@@ -1,5 +1,6 @@
 /* Answers on standard output, as lines or as one JSON document {"verb": .., "answers": [..]}. In JSON, addresses, offsets
- * and lengths in bytes are strings in hex, so that 64 bits survive; numbers and counts of entries stand as they are. */
+ * and lengths in bytes are strings in hex, so that 64 bits survive; numbers and counts of entries stand as they are. If the
+ * program fails, the document still closes, with the message as "error". */
 #ifndef REPORT_H
 #define REPORT_H
 
@@ -13,10 +14,13 @@ void end_report(void);
 /* An item: what was asked (for a page, its start), the number and its words, and what is added. It is a line with lines
  * below it, or an object. */
 void begin_item(const char *asked_name, uint64_t asked, uint64_t number);
+void begin_worded_item(const char *word, uint64_t number);    /* the line begins with a word; in JSON nothing was asked */
 void add_offset(uint64_t number, uint64_t offset);
 void add_entries(uint64_t entries);
 void add_length(uint64_t bytes);
 void add_refused_address(uint64_t address);
+void add_start(uint64_t offset);
+void add_block(uint64_t self, uint64_t directory_word);
 void add_nodes(const uint64_t *nodes, uint64_t count);
 void end_item(void);
 
@@ -36,14 +40,22 @@ void end_items(void);
 void add_dump(uint64_t address, const uint8_t *bytes, size_t length);
 void add_digits(const uint8_t *bytes, size_t length);
 
-/* The end of an outermost item, which is handed on at once. */
+/* The end of an outermost item. */
 void end_answer(void);
+
+/* Hands on what was reported so far. */
+void hand_on_answers(void);
+
+/* The refusal of a case or map as a whole, before any answer: a line, or an object of this name beside the answers. */
+void begin_fault(const char *name, uint64_t number);
+void add_file_length(const char *name, const char *words, uint64_t bytes);
+void end_fault(void);
 
 /* Outermost items of their own form: a number with its words and, unless that is NULL, a longer text; a text alone. */
 void report_number(uint64_t number, const char *explanation);
 void report_text(const char *text);
 
-/* Tells on standard error that a page is one of zeros; ends the program with FAILED if it cannot be told. */
-void warn_of_zeros(uint64_t address);
+/* Tells on standard error that bytes are of pages of zeros; ends the program with FAILED if it cannot be told. */
+void warn_of_zeros(uint64_t address, uint64_t bytes);
 
 #endif

@@ -1,71 +1,90 @@
 #include "verbs.h"
 
 #include "answer_numbers.h"
+#include "case_files.h"
 #include "explanations.h"
 #include "fail.h"
 #include "glintloom.h"
 #include "mapped_file.h"
+#include "memory.h"
 #include "numbers.h"
 #include "output_file.h"
+#include "ranges.h"
 #include "report.h"
 
 #include <inttypes.h>
 #include <stdlib.h>
 #include <string.h>
 
-struct case_files {
-    struct mapped_file sheet, image, pagefile;
-};
-
-/* The three slices, as the first arguments of a call. */
-#define SLICES(c) \
-    (c).sheet.bytes, (c).sheet.length, (c).image.bytes, (c).image.length, (c).pagefile.bytes, (c).pagefile.length
-
-static struct case_files map_case(const struct command *command)
-{
-    struct case_files files = {{NULL, 0}, {NULL, 0}, {NULL, 0}};
-    files.sheet = map_file(command->files[0]);
-    files.image = map_file(command->files[1]);
-    if (command->files[2] != NULL)
-        files.pagefile = map_file(command->files[2]);
-    return files;
-}
+/* Answers that are given together if their addresses come together: the files are then looked at once for all of them. */
+enum { MOST_TOGETHER = 64 };
 
 static int status_of(uint64_t number)
 {
     return is_refusal(number) ? REFUSED : ANSWERED;
 }
 
-static void *allocate(uint64_t count, size_t size)
+static void report_place(uint64_t address, glint_answer answer)
 {
-    void *buffer = NULL;
-    if (count <= SIZE_MAX / size)
-        buffer = malloc(count > 0 ? (size_t)count * size : size);   /* malloc may give NULL for 0 bytes */
-    if (buffer == NULL)
-        fail("not enough memory");
-    return buffer;
-}
-
-static void report_place(const char *asked_name, uint64_t asked, glint_answer answer)
-{
-    begin_item(asked_name, asked, answer.number);
+    begin_item("address", address, answer.number);
     add_offset(answer.number, answer.offset);
     add_entries(answer.entries);
 }
 
+static int report_places(const uint64_t *asked, const glint_answer *answers, size_t count)
+{
+    int status = ANSWERED;
+    for (size_t i = 0; i < count; i++) {
+        report_place(asked[i], answers[i]);
+        end_answer();
+        status |= status_of(answers[i].number);
+    }
+    hand_on_answers();
+    return status;
+}
+
 int resolve_verb(const struct command *command)
 {
-    struct case_files files = map_case(command);
+    struct case_files files = map_case(command->files);
     struct addresses addresses = addresses_of(command->numbers, command->number_count);
+    uint64_t asked[MOST_TOGETHER];
+    glint_answer answers[MOST_TOGETHER];
+    size_t count;
     int status = ANSWERED;
-    uint64_t address;
-    while (next_address(&addresses, &address)) {
-        glint_answer answer = glint_resolve(SLICES(files), address);
+    if (report_case_fault(&files))
+        return REFUSED;
+    while ((count = next_addresses(&addresses, asked, MOST_TOGETHER)) > 0) {
+        for (size_t i = 0; i < count; i++)
+            answers[i] = glint_resolve(SLICES(files), asked[i]);
         check_mapped_files();
-        report_place("address", address, answer);
-        end_answer();
-        status |= status_of(answer.number);
+        status |= report_places(asked, answers, count);
     }
+    return status;
+}
+
+/* Whether a map is refused whatever is looked up in it; then that is reported, once. */
+static bool report_map_fault(const struct mapped_file *map)
+{
+    /* A lookup judges the map before it judges the address, so any address will do. */
+    uint64_t number = glint_lookup(map->bytes, map->length, 0).number;
+    if (!has_kind(number, GLINT_KIND_CASE) && number != GLINT_BAD_EXTENT)
+        return false;
+    check_mapped_files();
+    begin_fault("map", number);
+    end_fault();
+    return true;
+}
+
+static int report_found(const uint64_t *asked, const glint_found *found, size_t count)
+{
+    int status = ANSWERED;
+    for (size_t i = 0; i < count; i++) {
+        begin_item("address", asked[i], found[i].number);
+        add_offset(found[i].number, found[i].offset);
+        end_answer();
+        status |= status_of(found[i].number);
+    }
+    hand_on_answers();
     return status;
 }
 
@@ -73,22 +92,19 @@ int lookup_verb(const struct command *command)
 {
     struct mapped_file map = map_file(command->files[0]);
     struct addresses addresses = addresses_of(command->numbers, command->number_count);
+    uint64_t asked[MOST_TOGETHER];
+    glint_found found[MOST_TOGETHER];
+    size_t count;
     int status = ANSWERED;
-    uint64_t address;
-    while (next_address(&addresses, &address)) {
-        glint_found found = glint_lookup(map.bytes, map.length, address);
+    if (report_map_fault(&map))
+        return REFUSED;
+    while ((count = next_addresses(&addresses, asked, MOST_TOGETHER)) > 0) {
+        for (size_t i = 0; i < count; i++)
+            found[i] = glint_lookup(map.bytes, map.length, asked[i]);
         check_mapped_files();
-        begin_item("address", address, found.number);
-        add_offset(found.number, found.offset);
-        end_answer();
-        status |= status_of(found.number);
+        status |= report_found(asked, found, count);
     }
     return status;
-}
-
-static _Noreturn void fail_for_changed_files(void)
-{
-    fail("the case's files were changed while they were read");
 }
 
 /* The bytes of a found page: those of the part that the page call names or, for a page of zeros, those of the read call. */
@@ -115,159 +131,108 @@ static int report_page(const struct command *command, const struct case_files *f
     check_mapped_files();
     if (found && command->output != NULL) {
         if (answer.number == GLINT_ZEROS)
-            warn_of_zeros(start);
+            warn_of_zeros(start, sizeof page);
         write_output_file(command->output, page, sizeof page);
     }
-    report_place("address", start, answer);
+    report_place(start, answer);
     if (found && command->output == NULL) {
         add_digits(page, sizeof page);
         add_dump(start, page, sizeof page);
     }
     end_answer();
+    hand_on_answers();
     return status_of(answer.number);
 }
 
 int page_verb(const struct command *command)
 {
-    struct case_files files = map_case(command);
+    struct case_files files = map_case(command->files);
     struct addresses addresses = addresses_of(command->numbers, command->number_count);
     int status = ANSWERED;
     uint64_t address;
-    while (next_address(&addresses, &address))
+    if (report_case_fault(&files))
+        return REFUSED;
+    while (next_addresses(&addresses, &address, 1) > 0)
         status |= report_page(command, &files, address);
     return status;
 }
 
-/* A read's range and, for the first byte of each of its pages that is in it, where that leads. */
-struct read_range {
-    uint64_t address, length, page_count;
-    glint_answer *pages;
-};
-
-static uint64_t first_byte(const struct read_range *range, uint64_t page)
+static void report_refused_read(uint64_t address, const struct range_refusal *refusal)
 {
-    uint64_t start = range->address - range->address % GLINT_PAGE_BYTES;
-    return page == 0 ? range->address : start + page * GLINT_PAGE_BYTES;
+    begin_item("address", address, refusal->number);
+    if (refusal->has_address)
+        add_refused_address(refusal->address);
+    end_answer();
 }
 
-static uint64_t bytes_in_page(const struct read_range *range, uint64_t page)
+static void warn_of_zeros_in(const struct stretches *stretches)
 {
-    uint64_t first = first_byte(range, page);
-    uint64_t to_page_end = GLINT_PAGE_BYTES - first % GLINT_PAGE_BYTES;
-    uint64_t to_range_end = range->length - (first - range->address);
-    return to_page_end < to_range_end ? to_page_end : to_range_end;
+    for (size_t i = 0; i < stretches->count; i++)
+        if (stretches->list[i].leads_to.number == GLINT_ZEROS)
+            warn_of_zeros(stretches->list[i].address, stretches->list[i].length);
 }
 
-static struct read_range resolve_pages(const struct case_files *files, uint64_t address, uint64_t length)
+/* `bytes` is NULL if they are not shown. */
+static void report_stretches(uint64_t address, const struct stretches *stretches, const uint8_t *bytes)
 {
-    uint64_t before = address % GLINT_PAGE_BYTES;
-    struct read_range range = {address, length, 0, NULL};
-    if (length > 0)
-        range.page_count = (before + length - 1) / GLINT_PAGE_BYTES + 1;
-    range.pages = allocate(range.page_count, sizeof *range.pages);
-    for (uint64_t i = 0; i < range.page_count; i++) {
-        range.pages[i] = glint_resolve(SLICES(*files), first_byte(&range, i));
-        if (is_refusal(range.pages[i].number))
-            fail_for_changed_files();
-    }
-    return range;
-}
-
-/* The first address of a refused read that is refused by itself; false for a fault of the case, and past the top. */
-static bool first_refused(const struct case_files *files, uint64_t number, struct read_range range, uint64_t *refused)
-{
-    if (!has_kind(number, GLINT_KIND_ADDRESS))
-        return false;
-    for (uint64_t page = 0;; page++) {
-        uint64_t first = first_byte(&range, page);
-        if (first < range.address)
-            return false;
-        if (first - range.address >= range.length)
-            fail_for_changed_files();
-        glint_answer answer = glint_resolve(SLICES(*files), first);
-        *refused = first;
-        if (is_refusal(answer.number) && answer.number != number)
-            fail_for_changed_files();
-        if (is_refusal(answer.number))
-            return true;
-    }
-}
-
-static void report_read_pages(const struct read_range *range, const uint8_t *bytes, bool dump)
-{
-    begin_items("pages");
-    for (uint64_t i = 0; i < range->page_count; i++) {
-        uint64_t first = first_byte(range, i);
-        report_place("address", first, range->pages[i]);
-        if (dump)
-            add_dump(first, bytes + (first - range->address), (size_t)bytes_in_page(range, i));
+    begin_items("stretches");
+    for (size_t i = 0; i < stretches->count; i++) {
+        const struct stretch *stretch = &stretches->list[i];
+        begin_item("address", stretch->address, stretch->leads_to.number);
+        add_offset(stretch->leads_to.number, stretch->leads_to.offset);
+        add_length(stretch->length);
+        if (bytes != NULL)
+            add_dump(stretch->address, bytes + (stretch->address - address), (size_t)stretch->length);
         end_item();
     }
     end_items();
 }
 
-static void warn_of_zeros_in(const struct read_range *range)
+static void report_read(const struct command *command, const struct stretches *stretches, const uint8_t *bytes)
 {
-    for (uint64_t i = 0; i < range->page_count; i++)
-        if (range->pages[i].number == GLINT_ZEROS)
-            warn_of_zeros(first_byte(range, i));
-}
-
-static void report_refused_read(const struct case_files *files, uint64_t number, uint64_t address, uint64_t length)
-{
-    struct read_range range = {address, length, 0, NULL};
-    uint64_t refused;
-    bool at_address = first_refused(files, number, range, &refused);
-    check_mapped_files();
-    begin_item("address", address, number);
-    if (at_address)
-        add_refused_address(refused);
-    end_answer();
-}
-
-static void report_read(const struct command *command, const struct read_range *range, const uint8_t *bytes)
-{
-    size_t length = (size_t)range->length;
+    uint64_t address = command->numbers[0], length = command->numbers[1];
     if (command->output != NULL) {
-        warn_of_zeros_in(range);
-        write_output_file(command->output, bytes, length);
+        warn_of_zeros_in(stretches);
+        write_output_file(command->output, bytes, (size_t)length);
     }
-    begin_item("address", range->address, GLINT_DONE);
+    begin_item("address", address, GLINT_DONE);
     add_length(length);
-    report_read_pages(range, bytes, command->output == NULL);
+    report_stretches(address, stretches, command->output == NULL ? bytes : NULL);
     if (command->output == NULL)
-        add_digits(bytes, length);
+        add_digits(bytes, (size_t)length);
     end_answer();
 }
 
 int read_verb(const struct command *command)
 {
-    struct case_files files = map_case(command);
+    struct case_files files = map_case(command->files);
     uint64_t address = command->numbers[0], length = command->numbers[1];
-    glint_answer first = glint_resolve(SLICES(files), address);
-    /* A refused first byte needs no memory for the others. */
-    if (length > 0 && is_refusal(first.number)) {
-        report_refused_read(&files, first.number, address, length);
+    struct range_refusal refusal;
+    if (report_case_fault(&files))
+        return REFUSED;
+    /* A read that is refused needs no memory, however long it is. */
+    if (is_refused_range(&files, address, length, &refusal)) {
+        check_mapped_files();
+        report_refused_read(address, &refusal);
         return REFUSED;
     }
     uint8_t *bytes = allocate(length, 1);
-    glint_bytes read = glint_read(SLICES(files), address, length, bytes, (size_t)length);
-    if (is_refusal(read.number)) {
-        report_refused_read(&files, read.number, address, length);
-    } else {
-        struct read_range range = resolve_pages(&files, address, length);
-        check_mapped_files();
-        report_read(command, &range, bytes);
-        free(range.pages);
-    }
+    if (glint_read(SLICES(files), address, length, bytes, (size_t)length).number != GLINT_DONE)
+        fail_for_changed_files();
+    struct stretches stretches = stretches_of(&files, address, length);
+    check_mapped_files();
+    report_read(command, &stretches, bytes);
+    free(stretches.list);
     free(bytes);
-    return status_of(read.number);
+    return ANSWERED;
 }
 
 int map_verb(const struct command *command)
 {
-    struct case_files files = map_case(command);
+    struct case_files files = map_case(command->files);
     uint64_t start = command->numbers[0];
+    if (report_case_fault(&files))
+        return REFUSED;
     uint8_t *map = allocate(GLINT_MAP_BYTES, 1);
     glint_written written = glint_map(SLICES(files), start, command->numbers[1], map, GLINT_MAP_BYTES);
     check_mapped_files();
@@ -286,32 +251,60 @@ int map_verb(const struct command *command)
     return status_of(written.number);
 }
 
+/* The places in a processor block of its own address and of the word with its directory page. */
+enum { SELF_AT = 0x18, DIRECTORY_AT = 0x1D0 };
+
+static uint64_t word_at(const struct mapped_file *file, uint64_t offset)
+{
+    uint64_t word = 0;
+    for (int i = 7; i >= 0; i--)
+        word = word << 8 | file->bytes[offset + (uint64_t)i];
+    return word;
+}
+
+static void report_block(const struct case_files *files, uint64_t from, glint_answer answer)
+{
+    bool found = !is_refusal(answer.number);
+    uint64_t self = found ? word_at(&files->image, answer.offset + SELF_AT) : 0;
+    uint64_t directory_word = found ? word_at(&files->image, answer.offset + DIRECTORY_AT) : 0;
+    check_mapped_files();
+    if (found) {
+        begin_item("offset", answer.offset, answer.number);
+        add_block(self, directory_word);
+        add_entries(answer.entries);
+    } else {
+        begin_worded_item("image", answer.number);
+        add_start(from);
+    }
+    end_answer();
+    hand_on_answers();
+}
+
 int processor_block_verb(const struct command *command)
 {
-    struct case_files files = map_case(command);
+    struct case_files files = map_case(command->files);
     uint64_t from = command->number_count > 0 ? command->numbers[0] : 0;
+    if (report_case_fault(&files))
+        return REFUSED;
     glint_answer answer = glint_processor_block(SLICES(files), from);
-    check_mapped_files();
     int status = status_of(answer.number);
-    report_place("from", from, answer);
-    end_answer();
+    report_block(&files, from, answer);
     while (command->all && !is_refusal(answer.number)) {
         from = answer.offset + 1;
         answer = glint_processor_block(SLICES(files), from);
-        check_mapped_files();
-        if (answer.number == GLINT_NO_PROCESSOR_BLOCK)
-            break;
-        report_place("from", from, answer);
-        end_answer();
-        status |= status_of(answer.number);
+        if (answer.number != GLINT_NO_PROCESSOR_BLOCK)
+            report_block(&files, from, answer);
     }
+    check_mapped_files();
     return status;
 }
 
 int list_verb(const struct command *command)
 {
-    struct case_files files = map_case(command);
+    struct case_files files = map_case(command->files);
     uint64_t head = command->numbers[0];
+    if (report_case_fault(&files))
+        return REFUSED;
     uint64_t *nodes = allocate(GLINT_LIST_PROCESSES, sizeof *nodes);
     glint_written written = glint_process_list(SLICES(files), head, nodes, GLINT_LIST_PROCESSES);
     check_mapped_files();

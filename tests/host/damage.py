@@ -9,6 +9,7 @@ from library import Library
 from program import run
 
 MAP_PAGES = 16
+CASE_FAULTS, MAP_FAULTS = range(10, 17), (10, 11, 12, 14, 43)
 SANITIZER_WORDS = (b"Sanitizer", b"runtime error")
 
 
@@ -32,7 +33,8 @@ def damaged(content, chance):
 
 def place(shown):
     """Number, offset and, where there are any, entries read of an answer."""
-    return tuple([shown["number"], int(shown["offset"], 16)] + [shown[name] for name in ("entries",) if name in shown])
+    offset = int(shown.get("offset", "0x0"), 16)
+    return tuple([shown["number"], offset] + [shown[name] for name in ("entries",) if name in shown])
 
 
 def shown_bytes(shown):
@@ -58,10 +60,12 @@ class Damage:
         return self.chance.choice((near, near, self.list_head, self.chance.getrandbits(64))) % 2**64
 
     def run_json(self, *words):
+        """The answers, or the fault of the case or map as the only one."""
         done = run(words[0], "--json", *words[1:])
         if done.returncode not in (0, 1) or any(word in done.stderr for word in SANITIZER_WORDS):
             raise Fault(f"{words}: exit status {done.returncode}\n{done.stderr.decode(errors='replace')}")
-        answers = json.loads(done.stdout)["answers"]
+        document = json.loads(done.stdout)
+        answers = document["answers"] + [document[name] for name in ("case", "map") if name in document]
         if done.returncode != any(one["number"] in REFUSALS for one in answers):
             raise Fault(f"{words}: exit status {done.returncode} for {answers}")
         return answers
@@ -80,7 +84,18 @@ class Damage:
         for path, content in zip(self.paths, case):
             path.write_bytes(content)
         verbs = (self.case, self.resolve, self.page, self.read, self.map, self.lookup, self.processor_block, self.list)
-        self.chance.choice(verbs)(case)
+        verb, fault = self.chance.choice(verbs), self.library.resolve(case, 0)[0]
+        if fault in CASE_FAULTS and verb not in (self.lookup, self.case):
+            self.refused_case(fault)
+        else:
+            verb(case)
+
+    def refused_case(self, fault):
+        """Whatever is asked, and if nothing is, the case is refused once."""
+        numbers = [self.address() for _ in range(self.chance.randrange(3))]
+        verb = self.chance.choice(("resolve", "page", ("processor-block", "list", "read")[len(numbers)]))
+        shown = [one["number"] for one in self.run_json(verb, *self.paths, *numbers)]
+        self.expect((verb, numbers), shown, [fault])
 
     def case(self, case):
         shown = self.run_json("case", *self.paths)[0]
@@ -93,7 +108,7 @@ class Damage:
 
     def resolve(self, case):
         addresses = [self.address() for _ in range(8)]
-        shown = [place(one) for one in self.run_json("resolve", *self.paths, *addresses)]
+        shown = [place(one) for one in self.run_json("resolve", self.directory, *addresses)]
         self.expect(("resolve", addresses), shown, [self.library.resolve(case, address) for address in addresses])
 
     def page(self, case):
@@ -107,7 +122,7 @@ class Damage:
     def read(self, case):
         address, n = self.address(), self.chance.choice((0, 1, 8, 100, PAGE, 3 * PAGE))
         shown = self.run_json("read", *self.paths, address, n)[0]
-        zeros = int(any(one["number"] == 3 for one in shown.get("pages", [])))
+        zeros = int(any(one["number"] == 3 for one in shown.get("stretches", [])))
         answered = self.library.read(case, address, n)
         self.expect(("read", address, n), (shown["number"], shown_bytes(shown), zeros), answered)
         if "refused_address" in shown:
@@ -129,12 +144,17 @@ class Damage:
         self.met["map"] += 1
         addresses = [(start + self.chance.randrange((MAP_PAGES + 2) * PAGE)) % 2**64 for _ in range(8)]
         shown = [place(one) for one in self.run_json("lookup", path, *addresses)]
-        self.expect(("lookup", addresses), shown, [self.library.lookup(content, address) for address in addresses])
+        answered = [self.library.lookup(content, address) for address in addresses]
+        self.expect(("lookup", addresses), shown, answered[:1] if answered[0][0] in MAP_FAULTS else answered)
 
     def processor_block(self, case):
         start = self.chance.choice((0, self.chance.randrange(2 * PAGE), self.chance.getrandbits(64)))
-        shown = place(self.run_json("processor-block", *self.paths, start)[0])
-        self.expect(("processor-block", start), shown, self.library.processor_block(case, start))
+        shown = self.run_json("processor-block", *self.paths, start)[0]
+        answered = self.library.processor_block(case, start)
+        self.expect(("processor-block", start), place({"entries": 0, **shown}), answered)
+        if "self" in shown:
+            words = (int.from_bytes(case[1][at : at + 8], "little") for at in (answered[1] + 0x18, answered[1] + 0x1D0))
+            self.expect(("processor-block", start), (int(shown["self"], 16), int(shown["cr3"], 16)), tuple(words))
 
     def list(self, case):
         head = self.chance.choice((self.list_head, self.list_head + 16, self.address()))

@@ -29,6 +29,27 @@ def place(address, number, offset=0, entries=None):
     return line
 
 
+def fault(name, number, rest=""):
+    """The line for a case or a map that is refused as a whole."""
+    return f"{name:18}  {number:2} refused: {REFUSALS[number]}{rest}"
+
+
+def block(offset, self_address, directory_page, entries):
+    """The line for a processor block."""
+    words = f"Self 0x{self_address:016X}, directory page 0x{directory_page:09X}, CR3 0x{directory_page << 12:016X}"
+    return f"0x{offset:016X}   1 {PLACES[1]}, {words}, {entries} entries read"
+
+
+def no_block(start):
+    """The line for a search that finds no processor block."""
+    return fault("image", 55, f", from 0x{start:X}")
+
+
+def stretch(address, number, offset, length):
+    """The line for a stretch of a read."""
+    return f"{place(address, number, offset)}, 0x{length:X} {'byte' if length == 1 else 'bytes'}"
+
+
 def first_at(address):
     """Behind the line of a refused read: the first address that is refused."""
     return f", first at 0x{address:016X}"
@@ -39,13 +60,16 @@ def done(asked, rest):
 
 
 def dump(address, content):
-    """The lines of a hex dump."""
+    """The lines of a hex dump; rows that repeat the one before are one star, but for the last row."""
     lines = []
     for at in range(0, len(content), 16):
         row = content[at : at + 16]
+        if at > 0 and row == content[at - 16 : at] and at + 16 < len(content):
+            lines += ["*"] * (lines[-1] != "*")
+            continue
         digits = [f"{byte:02X}" for byte in row] + ["  "] * (16 - len(row))
         text = "".join(chr(byte) if 0x20 <= byte <= 0x7E else "." for byte in row)
-        lines.append(f"{address + at:016X}  {' '.join(digits[:8])}  {' '.join(digits[8:])}  |{text}|")
+        lines.append(f"0x{address + at:016X}  {' '.join(digits[:8])}  {' '.join(digits[8:])}  |{text}|")
     return lines
 
 

@@ -4,6 +4,7 @@ import json
 import os
 import platform
 import re
+import resource
 import shutil
 import subprocess
 import tempfile
@@ -60,17 +61,27 @@ def run(*words, copy=None, **how):
     if "input" not in how:
         how.setdefault("stdin", subprocess.DEVNULL)
     how.setdefault("stdout", subprocess.PIPE)
-    done = subprocess.run(command(*words, copy=copy), stderr=subprocess.PIPE, env=ENVIRONMENT, timeout=60, **how)
+    how.setdefault("env", ENVIRONMENT)
+    done = subprocess.run(command(*words, copy=copy), stderr=subprocess.PIPE, timeout=60, **how)
     done.stderr = SANITIZER_NOTE.sub(b"", done.stderr)
     return done
+
+
+def with_little_memory(length):
+    """How to run so that `length` bytes can be mapped but not allocated too."""
+    if Program.path == SANITIZED:
+        options = f"{ENVIRONMENT['ASAN_OPTIONS']}:max_allocation_size_mb={length >> 21}"
+        return {"env": dict(ENVIRONMENT, ASAN_OPTIONS=options)}
+    limit = (length + length // 2,) * 2
+    return {"preexec_fn": lambda: resource.setrlimit(resource.RLIMIT_AS, limit)}
 
 
 class Conversation:
     """A run that is asked by standard input; ended after a while if it does not answer."""
 
-    def __init__(self, *words, stdout=subprocess.PIPE, stderr=subprocess.PIPE):
-        pipes = {"stdin": subprocess.PIPE, "stdout": stdout, "stderr": stderr}
-        self.child = subprocess.Popen(command(*words), env=ENVIRONMENT, **pipes)
+    def __init__(self, *words, **how):
+        how = {"stdin": subprocess.PIPE, "stdout": subprocess.PIPE, "stderr": subprocess.PIPE, **how}
+        self.child = subprocess.Popen(command(*words), env=ENVIRONMENT, **how)
         self.patience = threading.Timer(60, self.child.kill)
         self.patience.start()
 
@@ -82,6 +93,14 @@ class Conversation:
         """The line that answers an address."""
         self.send(address)
         return self.child.stdout.readline()
+
+    def shown_until(self, text):
+        """What is shown up to this text and no further."""
+        shown, byte = b"", b" "
+        while byte and not shown.endswith(text):
+            byte = self.child.stdout.read(1)
+            shown += byte
+        return shown
 
     def end(self, address=b""):
         """Status, output and error text after a last address."""

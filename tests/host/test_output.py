@@ -1,17 +1,13 @@
-"""Output files: whole or as they were, on refusals, failing writes, files cut short and signals."""
+"""Output files: whole or as they were, on refusals and failing writes; standard output as one."""
+import json
 import os
 import resource
-import signal
 import subprocess
-import time
-from pathlib import Path
 
-from cases import PAGE, RING_PAGES, large_page_case, ring_case, shipped_case
-from program import ANSWERED, ENVIRONMENT, FAILED, NOBODY, REFUSED
-from program import Conversation, HostTest, command, run, run_redirected
+from cases import PAGE, shipped_case
+from program import ANSWERED, FAILED, NOBODY, REFUSED, HostTest, run, run_redirected
 
 MARK = "page of zeros, by the tables"
-TRIES = 40
 
 
 class OutputFiles(HostTest):
@@ -22,31 +18,31 @@ class OutputFiles(HostTest):
         self.out = self.directory / "results" / "out"
         self.out.parent.mkdir()
         self.image_page = self.files.image.read_bytes()[0x5000:0x6000]
+        self.line = "0x00000000777B0000   1 found in the image, offset 0x5000, 9 entries read\n"
 
     def writes(self, words, content, marks=()):
-        """The file is written, with these addresses marked as pages of zeros, and it is all that is left."""
+        """The file is written, with these lengths at addresses marked as of zeros, and it is all that is left."""
         done = run(*words, "-o", self.out)
-        warned = "".join(f"glintloom: 0x{address:016X}: {MARK}\n" for address in marks)
+        warned = "".join(f"glintloom: 0x{address:016X}: {MARK}, 0x{length:X} bytes\n" for address, length in marks)
         self.assertEqual((done.stderr.decode(), done.returncode), (warned, ANSWERED))
         self.assertEqual(self.out.read_bytes(), content)
         self.assertEqual(os.listdir(self.out.parent), ["out"])
         return done.stdout.decode()
 
     def test_page(self):
-        line = self.writes(["page", *self.case, "0x777B0123"], self.image_page)
-        self.assertEqual(line, "0x00000000777B0000   1 found in the image, offset 0x5000, 9 entries read\n")
+        self.assertEqual(self.writes(["page", *self.case, "0x777B0123"], self.image_page), self.line)
 
     def test_page_of_zeros_is_marked(self):
-        self.writes(["page", *self.case, "0xB38001"], bytes(PAGE), [0xB38000])
+        self.writes(["page", *self.case, "0xB38001"], bytes(PAGE), [(0xB38000, PAGE)])
 
     def test_read_marks_pages_of_zeros(self):
-        line = self.writes(["read", *self.case, "0xB37FFE", "5"], bytes(5), [0xB38000])
+        line = self.writes(["read", *self.case, "0xB37FFE", "5"], bytes(5), [(0xB38000, 3)])
         self.assertEqual(line.splitlines()[0], "0x0000000000B37FFE   0 done, 0x5 bytes")
         self.writes(["read", *self.case, "0x777B0000", "3"], b"MZ\x90")
         self.writes(["read", *self.case, "0x777B0000", "0"], b"")
 
     def test_two_pages_of_zeros(self):
-        self.writes(["read", *self.case, "0xB42FFF", "2"], bytes(2), [0xB42FFF, 0xB43000])
+        self.writes(["read", *self.case, "0xB42FFF", "2"], bytes(2), [(0xB42FFF, 2)])
 
     def test_map(self):
         self.writes(["map", *self.case, "0xB38000", "1"], bytes.fromhex("01b816010301"))
@@ -63,13 +59,14 @@ class OutputFiles(HostTest):
             ["read", *self.case, "0x1D0000", "1"],
             ["map", *self.case, "0xB34001", "1"],
             ["map", self.case[1], *self.case[1:], "0xB34000", "1"],
+            ["page", self.case[0], self.case[2], self.case[2], "0x777B0000"],
         )
 
     def test_refusal_makes_no_file(self):
         for words in self.refused():
             done = run(*words, "-o", self.out)
             self.assertEqual((done.returncode, done.stderr, os.listdir(self.out.parent)), (REFUSED, b"", []))
-            self.assertRegex(done.stdout, rb"\A0x[0-9A-F]{16}  \d\d refused: [^\n]*\n\Z")
+            self.assertRegex(done.stdout, rb"\A(0x[0-9A-F]{16}|case {14})  \d\d refused: [^\n]*\n\Z")
 
     def test_refusal_keeps_the_file(self):
         self.out.write_bytes(b"as it was")
@@ -117,31 +114,90 @@ class OutputFiles(HostTest):
         self.assertEqual((os.listdir(self.out.parent), os.path.lexists(self.directory / "missing")), (["out"], False))
         self.assertTrue(self.out.is_symlink())
 
-    def test_standard_output_and_error(self):
+    def test_standard_output_and_error_that_are_no_files(self):
+        """Pipes: the bytes would stand among the report, the messages or the addresses."""
         words = ["page", *self.case, "0x777B0000", "-o"]
         for name in ("/dev/stdout", "/dev/fd/1", "/proc/self/fd/1"):
-            self.fails([*words, name], f"{name}: is standard output")
+            self.fails([*words, name], f"{name}: is standard output, which -o - writes to")
         for name in ("/dev/stderr", "/dev/fd/2"):
             self.fails([*words, name], f"{name}: is standard error")
+        self.fails([*words, "/dev/stdin"], "/dev/stdin: is standard input", input=b"")
 
-    def redirected(self, redirections, name, message):
-        """The file that the shell redirects to keeps what it had."""
+    def open_on(self, redirection, number, name):
+        """The file that the shell opens keeps what it had; it is refused by its descriptor, by any name."""
         self.out.write_bytes(b"as it was\n")
-        done = run_redirected(f"{redirections} '{self.out}'", "page", *self.case, "0x777B0000", "-o", name)
-        told = f"glintloom: {name}: {message}\n".encode()
-        self.assertEqual(done.returncode, FAILED)
-        self.assertEqual(done.stdout + done.stderr + self.out.read_bytes().removeprefix(b"as it was\n"), told)
-        self.assertEqual(os.listdir(self.out.parent), ["out"])
-        return self.out.read_bytes()
+        done = run_redirected(f"{redirection} '{self.out}'", "page", *self.case, "0x777B0000", "-o", name)
+        told = f"glintloom: {name}: is open on descriptor {number}, and is not replaced\n".encode()
+        kept = b"" if redirection == ">" else b"as it was\n"
+        in_file, on_error = (kept + told, b"") if number == 2 else (kept, told)
+        self.assertEqual((done.returncode, done.stdout, done.stderr), (FAILED, b"", on_error))
+        self.assertEqual((os.listdir(self.out.parent), self.out.read_bytes()), (["out"], in_file))
 
-    def test_files_behind_descriptors(self):
-        for name in ("/dev/stdout", self.out):
-            self.assertEqual(self.redirected(">>", name, "is standard output"), b"as it was\n")
-            self.assertEqual(self.redirected(">", name, "is standard output"), b"")
-        for name in ("/dev/stderr", self.out):
-            self.assertTrue(self.redirected("2>>", name, "is standard error").startswith(b"as it was\n"))
-        stays = self.redirected("5>>", "/dev/fd/5", "names a descriptor of a regular file")
-        self.assertEqual(stays, b"as it was\n")
+    def test_files_that_are_open(self):
+        for redirection, number in (("<", 0), (">", 1), (">>", 1), ("2>>", 2), ("5<", 5), ("5>>", 5), ("7<>", 7)):
+            self.open_on(redirection, number, f"/dev/fd/{number}")
+        for redirection, number, name in (("<", 0, "/dev/stdin"), (">>", 1, "/dev/stdout"), ("2>>", 2, "/dev/stderr")):
+            self.open_on(redirection, number, name)
+            self.open_on(redirection, number, self.out)
+        link, hard_link = self.directory / "link", self.directory / "hard_link"
+        link.symlink_to("/dev/fd/5")
+        os.link(self.out, hard_link)
+        for name in (link, hard_link, self.out):
+            self.open_on("5<", 5, name)
+
+    def test_file_that_is_open_and_gone(self):
+        with self.write("gone", b"as it was").open("rb") as file:
+            os.unlink(file.name)
+            name = f"/dev/fd/{file.fileno()}"
+            words = ["page", *self.case, "0x777B0000", "-o", name]
+            self.fails(words, f"{name}: is open on descriptor", pass_fds=[file.fileno()])
+
+    def test_null_device(self):
+        """Whatever else leads there, and by any name."""
+        link = self.directory / "link"
+        link.symlink_to("/dev/null")
+        words = ["page", *self.case, "0x777B0000", "-o"]
+        for redirections in ("</dev/null", "2>/dev/null", "2>&-", "5</dev/null"):
+            done = run_redirected(redirections, *words, link)
+            self.assertEqual((done.returncode, done.stdout, done.stderr), (ANSWERED, self.line.encode(), b""))
+        for name in ("/dev/null", link, "/dev/stdout", "/dev/fd/1"):
+            done = run_redirected(">/dev/null 2>/dev/null", *words, name)
+            self.assertEqual((done.returncode, done.stdout, done.stderr), (ANSWERED, b"", b""))
+
+    def test_standard_output_by_its_option(self):
+        """Raw bytes there, the report on standard error."""
+        for words in (["page", *self.case, "0x777B0123", "-o", "-"], ["-o-", "page", *self.case, "0x777B0123"]):
+            done = run(*words)
+            self.assertEqual((done.returncode, done.stdout, done.stderr.decode()), (ANSWERED, self.image_page, self.line))
+        done = run("map", *self.case, "0xB38000", "1", "-o", "-")
+        self.assertEqual((done.returncode, done.stdout), (ANSWERED, bytes.fromhex("01b816010301")))
+        done = run("read", *self.case, "0xB37FFE", "5", "-o", "-")
+        self.assertEqual((done.returncode, done.stdout), (ANSWERED, bytes(5)))
+        mark, first, *_ = done.stderr.decode().splitlines()
+        self.assertEqual(mark, f"glintloom: 0x0000000000B38000: {MARK}, 0x3 bytes")
+        self.assertEqual(first, "0x0000000000B37FFE   0 done, 0x5 bytes")
+        done = run("page", "--json", *self.case, "0x777B0000", "-o", "-")
+        self.assertEqual((done.stdout, json.loads(done.stderr)["answers"][0]["number"]), (self.image_page, 1))
+
+    def test_standard_output_on_a_refusal(self):
+        done = run("read", *self.case, "0xB38FFF", "2", "-o", "-")
+        self.assertEqual((done.returncode, done.stdout), (REFUSED, b""))
+        self.assertRegex(done.stderr, rb"\A0x0000000000B38FFF  22 refused: [^\n]*, first at 0x0000000000B39000\n\Z")
+
+    def test_standard_output_that_cannot_take_the_bytes(self):
+        words = ["page", *self.case, "0x777B0000", "-o", "-"]
+        for redirection, message in (
+            (">/dev/full", "No space left on device"),
+            (">&-", "Bad file descriptor"),
+            (f">>'{self.case[1]}'", "is an input file, and is not written over"),
+        ):
+            before = self.case[1].read_bytes()
+            done = run_redirected(redirection, *words)
+            self.assertEqual((done.returncode, done.stderr.decode()), (FAILED, f"glintloom: standard output: {message}\n"))
+            self.assertEqual(self.case[1].read_bytes(), before)
+        kept = self.write("kept", b"before ")
+        self.assertEqual(run_redirected(f">>'{kept}'", *words).returncode, ANSWERED)
+        self.assertEqual(kept.read_bytes(), b"before " + self.image_page)
 
     def test_zeros_that_cannot_be_marked(self):
         """No file is made if nobody is told of its zeros."""
@@ -193,141 +249,3 @@ class OutputFiles(HostTest):
         with subprocess.Popen(["cat", self.out], stdout=subprocess.PIPE) as reader:
             self.assertEqual(run("read", *self.case, "0x777B0000", "2", "-o", self.out).returncode, ANSWERED)
             self.assertEqual(reader.stdout.read(), b"MZ")
-
-
-class CutShort(HostTest):
-    """A file cut short, or changed, while it is mapped."""
-
-    def change_between_addresses(self, words, path, change, message, first=b"0xB38000", second=b"0xB37000"):
-        talk = Conversation(*words)
-        before = talk.ask(first)
-        change(path)
-        status, out, error = talk.end(second)
-        self.assertEqual((out, status), (b"", FAILED))
-        self.assertEqual(error.decode(), f"glintloom: {path}: {message} while it was read\n")
-        return before
-
-    def cut_between_addresses(self, words, path, first=b"0xB38000", second=b"0xB37000"):
-        lost = "was cut short, or its disk failed,"
-        return self.change_between_addresses(words, path, lambda name: os.truncate(name, 0), lost, first, second)
-
-    def test_within_the_last_page(self):
-        """What a file lost of its last page reads as zeros; nothing may be answered from them."""
-        for path in shipped_case(self.directory).words():
-            words = ["resolve", *shipped_case(self.directory).words()]
-            cut = lambda name: os.truncate(name, name.stat().st_size - 1)
-            self.change_between_addresses(words, path, cut, "was cut short")
-
-    def test_other_changes(self):
-        def lengthen(name):
-            """The time of change stays, as it does where the clock is coarse."""
-            times = name.stat()
-            os.truncate(name, times.st_size + 1)
-            os.utime(name, ns=(times.st_atime_ns, times.st_mtime_ns))
-
-        def write_over(name):
-            name.open("r+b").write(b"\1")
-            os.utime(name, (0, 0))
-
-        for change in (lengthen, write_over):
-            for path in shipped_case(self.directory).words():
-                words = ["page", *shipped_case(self.directory).words()]
-                self.change_between_addresses(words, path, change, "was changed", first=b"0x1D0000")
-
-    def test_image(self):
-        files = shipped_case(self.directory)
-        before = self.cut_between_addresses(["resolve", *files.words()], files.image)
-        self.assertEqual(before, b"0x0000000000B38000   3 page of zeros, by the tables, 4 entries read\n")
-
-    def test_sheet(self):
-        files = shipped_case(self.directory)
-        self.cut_between_addresses(["resolve", *files.words()], files.sheet)
-
-    def test_pagefile(self):
-        """The page's bytes are read when its place is known already."""
-        files = shipped_case(self.directory)
-        self.cut_between_addresses(["page", *files.words()], files.pagefile, b"0x1D0000", b"0xB35000")
-
-    def test_map(self):
-        path = self.write("map", bytes.fromhex("01b816010301"))
-        self.cut_between_addresses(["lookup", path], path)
-
-    def cut_while_mapped(self, image, words):
-        """Cuts the image as soon as the program has it mapped."""
-        talk = Conversation(*words)
-        maps = Path(f"/proc/{talk.child.pid}/maps")
-        while talk.child.poll() is None and str(image) not in maps.read_text():
-            pass
-        os.truncate(image, 0)
-        return talk.end()
-
-    def test_during_a_long_map(self):
-        files, _ = ring_case(self.directory)
-        content, out = files.image.read_bytes(), self.directory / "results" / "out"
-        out.parent.mkdir()
-        for _ in range(TRIES):
-            out.write_bytes(b"as it was")
-            files.image.write_bytes(content)
-            status, shown, error = self.cut_while_mapped(files.image, ["map", *files.words(), 0, RING_PAGES, "-o", out])
-            if status == FAILED:
-                break
-        self.assertEqual((status, shown), (FAILED, b""))
-        self.assertIn(b"was cut short", error)
-        self.assertEqual((os.listdir(out.parent), out.read_bytes()), (["out"], b"as it was"))
-
-
-class ToldToEnd(HostTest):
-    """A signal while the output file is written leaves no temporary file."""
-
-    LENGTH = 64 << 20
-    SIGNALS = (
-        signal.SIGHUP,
-        signal.SIGINT,
-        signal.SIGQUIT,
-        signal.SIGTERM,
-        signal.SIGUSR1,
-        signal.SIGUSR2,
-        signal.SIGALRM,
-        signal.SIGPOLL,
-        signal.SIGVTALRM,
-        signal.SIGPROF,
-        signal.SIGXCPU,
-        signal.SIGPWR,
-        signal.SIGRTMIN,
-    )
-
-    def setUp(self):
-        super().setUp()
-        files = large_page_case(self.directory, self.LENGTH // PAGE)
-        self.out = self.directory / "results" / "out"
-        self.out.parent.mkdir()
-        self.words = ["read", *files.words(), 0, self.LENGTH, "-o", self.out]
-
-    def is_writing(self):
-        return any(name.startswith(".glintloom-") for name in os.listdir(self.out.parent))
-
-    def end_while_writing(self, number):
-        """Whether the signal came before the file had its name; if not, the file is whole."""
-        def prepare():
-            resource.setrlimit(resource.RLIMIT_CORE, (0, 0))
-            signal.signal(number, signal.SIG_DFL)
-
-        nowhere = {"stdout": subprocess.DEVNULL, "stderr": subprocess.DEVNULL}
-        child = subprocess.Popen(command(*self.words), env=ENVIRONMENT, preexec_fn=prepare, **nowhere)
-        while child.poll() is None and not self.is_writing():
-            time.sleep(0.0002)
-        child.send_signal(number)
-        status = child.wait(timeout=60)
-        self.assertIn(status, (ANSWERED, -number))
-        self.assertFalse(self.is_writing())
-        if not self.out.exists():
-            self.assertEqual(status, -number)
-            return True
-        self.assertEqual(self.out.stat().st_size, self.LENGTH)
-        self.out.unlink()
-        return False
-
-    def test_by_signal(self):
-        for number in self.SIGNALS:
-            if not any(self.end_while_writing(number) for _ in range(TRIES)):
-                self.skipTest(f"{number.name} never came while the file was written")

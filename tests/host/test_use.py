@@ -3,6 +3,7 @@ import os
 import pty
 import re
 import select
+import signal
 import subprocess
 import time
 
@@ -11,7 +12,13 @@ from expected import place
 from program import ANSWERED, ENVIRONMENT, FAILED, ROOT, Conversation, HostTest, command, run, run_redirected
 
 NO_NUMBERS = ("", "x", "0x", "-1", "+1", " 1", "1 ", "0x1G", "0b1", "1.5", "12abc", "0x-1", "1,000", "0x1 0x2", "ff")
+NO_NUMBERS += ("777B0000", "00000000777B000", "00000000777B00000", "00000000777B000G")
+NO_NUMBERS += ("`", "1`", "`00000001", "0x`00000001", "1`1", "1`000000001", "0`00000000`00000001", "g`00000001")
 TOO_LARGE = ("18446744073709551616", "0x10000000000000000", "99999999999999999999999999", "0x1" + "0" * 40)
+TOO_LARGE += ("100000000`00000000",)
+# As a dump prints it without 0x, a decimal that someone made even, and 16 digits that might be either.
+UNCLEAR = ("0000000000400000", "00", "01", "00011755519", "1234567890123456", "0" * 40)
+HINT = "hex or decimal? Write hex as 0x.., decimal without 0 in front and not with 16 digits"
 
 # Each verb that takes a case, with numbers that it takes.
 CASE_VERBS = {
@@ -65,7 +72,7 @@ class WrongUse(HostTest):
             ["map", *self.case, "0", "1", "2"],
             ["list", *self.case, "0", "8"],
             ["processor-block", *self.case, "0", "8"],
-            ["help", "resolve"],
+            ["help", "resolve", "page"],
         ):
             self.fails(words, "too many operands")
 
@@ -77,19 +84,33 @@ class WrongUse(HostTest):
 
     def test_numbers(self):
         for text in NO_NUMBERS + TOO_LARGE:
-            message = "no option" if text.startswith("-") else "no number in hex"
-            self.fails(["resolve", *self.case, text], message)
             self.fails(["resolve", *self.case, "--", text], "no number in hex")
-            self.fails(["read", *self.case, "--", "0", text], "no number in hex")
-            self.fails(["explain", "--", text], "no number in hex")
+        for text in ("x", TOO_LARGE[0]):
+            self.fails(["read", *self.case, "0", text], "no number in hex")
+            self.fails(["explain", text], "no number in hex")
+
+    def test_unclear_numbers(self):
+        for text in UNCLEAR:
+            self.fails(["resolve", *self.case, text], f"'{text}': {HINT}")
+            self.fails(["resolve", *self.case], f"standard input, line 2: {HINT}", input=f"\n {text}\n".encode())
+        self.fails(["read", *self.case, "0", "010"], f"'010': {HINT}")
+        self.fails(["explain", "022"], f"'022': {HINT}")
+
+    def test_an_address_from_a_dump(self):
+        """What a dump or a list prints can be asked again, and is the same address."""
+        dump = run("page", *self.case, "0x777B0000").stdout.decode().splitlines()
+        addresses = [line.split()[0] for line in dump if line != "*"]
+        self.assertGreater(len(addresses), 8)
+        lines = [place(address, 1, address - 0x777B0000 + 0x5000, 9) for address in (int(text, 16) for text in addresses)]
+        self.says(["resolve", *self.case, *addresses], ANSWERED, lines)
+        self.says(["resolve", *self.case, *(text[2:] for text in addresses[1:])], ANSWERED, lines[1:])
 
     def test_a_wrong_number_stops_all(self):
         self.fails(["resolve", *self.case, "0xB38000", "junk"], "'junk': no number in hex")
 
     def test_numbers_on_input(self):
-        for text in NO_NUMBERS + TOO_LARGE + ("0x10\0", "0x1" + " " * 200 + "junk", "0" * 200):
-            if text.strip(" ") not in ("", "1"):
-                self.fails(["resolve", *self.case], "standard input, line 2: no number", input=f"\n{text}\n".encode())
+        for text in ("x", "0x", "-1", "0x1 0x2", TOO_LARGE[0], "0x10\0", "0x1" + " " * 200 + "junk", "0" * 200):
+            self.fails(["resolve", *self.case], "standard input, line 2: no number", input=f"\n{text}\n".encode())
 
     def test_answers_before_a_wrong_line_stand(self):
         shown = run("resolve", *self.case, input=b"0xB38000\njunk\n0xB38000\n")
@@ -112,16 +133,19 @@ class InputFiles(HostTest):
         for place in range(3):
             words = list(self.case)
             words[place] = name
-            for verb, numbers in CASE_VERBS.items():
-                self.fails([verb, *words, *numbers], message)
-                self.fails([verb, "--json", *words, *numbers], message)
+            self.fails(["resolve", *words, "0"], message)
+        for verb, numbers in CASE_VERBS.items():
+            self.fails([verb, *words, *numbers], message)
         self.fails(["lookup", name, "0"], message)
 
     def test_missing(self):
         self.each_place(self.directory / "missing", "missing: No such file or directory")
 
     def test_directory(self):
-        self.each_place(self.directory, "not a regular file")
+        """A directory in the first place is a folder that holds the case."""
+        for case in ([self.case[0], self.directory, self.case[2]], [*self.case[:2], self.directory]):
+            self.fails(["resolve", *case, "0"], f"{self.directory}: not a regular file")
+        self.fails(["lookup", self.directory, "0"], f"{self.directory}: not a regular file")
 
     def test_pipe_and_device(self):
         os.mkfifo(self.directory / "pipe")
@@ -169,11 +193,20 @@ class StandardOutput(HostTest):
                 self.fails(words, "standard output: No space left on device", stdout=full)
 
     def test_closed_pipe(self):
-        for words in self.commands:
+        """Ends as other tools do: by the signal, without a word."""
+        for words in (*self.commands, ["page", *self.case, "0x777B0000", "-o", "-"]):
             reader, writer = os.pipe()
             os.close(reader)
-            self.fails(words, "standard output: Broken pipe", stdout=writer)
+            shown = run(*words, stdout=writer)
+            self.assertEqual((shown.returncode, shown.stderr), (-signal.SIGPIPE, b""))
             os.close(writer)
+
+    def test_closed_pipe_where_the_signal_is_ignored(self):
+        reader, writer = os.pipe()
+        os.close(reader)
+        ignore = {"restore_signals": False, "preexec_fn": lambda: signal.signal(signal.SIGPIPE, signal.SIG_IGN)}
+        self.fails(self.commands[0], "standard output: Broken pipe", stdout=writer, **ignore)
+        os.close(writer)
 
     def test_closed_output(self):
         for words in self.commands:
@@ -192,7 +225,7 @@ class StandardOutput(HostTest):
         self.assertIn(b"page of zeros", talk.ask(b"0xB38000"))
         talk.child.stdout.close()
         status, _, error = talk.end(b"0xB38000")
-        self.assertEqual((status, error), (FAILED, b"glintloom: standard output: Broken pipe\n"))
+        self.assertEqual((status, error), (-signal.SIGPIPE, b""))
 
 
 class Progress(HostTest):
@@ -227,6 +260,14 @@ class Progress(HostTest):
         self.assertEqual(talk.end(b"0xB38000")[0], ANSWERED)
         shown += self.shown_to_the_end()
         self.assertRegex(shown, rf"\A{self.LINES % '[012]'}+{self.ERASED}end\Z")
+
+    def test_taken_away_by_a_signal(self):
+        talk = Conversation("resolve", *self.case, stderr=self.writer)
+        shown = self.shown_until("answered")
+        talk.child.terminate()
+        self.assertEqual(talk.end()[0], -signal.SIGTERM)
+        shown += self.shown_to_the_end()
+        self.assertRegex(shown, rf"\A{self.LINES % 0}+{self.ERASED}end\Z")
 
     def test_goes_on_between_answers(self):
         """Answers on the same terminal: the line makes way for each and comes again."""
@@ -265,5 +306,5 @@ class Progress(HostTest):
 class ManualPage(HostTest):
     def test_names_every_verb_and_option(self):
         text = (ROOT / "host" / "glintloom.1").read_text()
-        for word in (*CASE_VERBS, "lookup", "explain", "help", "--json", "--no-pagefile", "--all", "-o"):
+        for word in (*CASE_VERBS, "lookup", "explain", "help", "--json", "--no-pagefile", "--all", "-o", "--help", "--version"):
             self.assertIn(word.replace("-", "\\-"), text)

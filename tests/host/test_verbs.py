@@ -1,8 +1,13 @@
 """Every verb: what it prints for answers and for refusals."""
-from cases import PAGE, RING_PAGES, SHIPPED, Memory, make_case
-from cases import block_case, list_case, printed_machine, ring_case, shipped_case
-from expected import SHIPPED_MAP, WORDS, done, dump, first_at, place, shipped_answers, shipped_lines
-from program import ANSWERED, REFUSED, HostTest, run
+import random
+import re
+
+from cases import BLOCK_PLACES, PAGE, RING_PAGES, SHIPPED, Memory, make_case
+from cases import block_case, large_page_case, list_case, printed_machine, ring_case, sheet_of, shipped_case
+from expected import REFUSALS, SHIPPED_MAP, WORDS, block, done, dump, fault, first_at, no_block, place, stretch
+from expected import shipped_answers, shipped_lines
+from program import ANSWERED, REFUSED, HostTest, run, with_little_memory
+
 
 class Resolve(HostTest):
     def setUp(self):
@@ -26,7 +31,8 @@ class Resolve(HostTest):
         self.says(["resolve", *self.case], REFUSED, shipped_lines(), input=text.encode())
 
     def test_forms_of_numbers(self):
-        words = ["0xb35fff", "0XB35FFF", "11755519", "00011755519", "0x0000000000B35FFF", "0x0000000000000000B35FFF"]
+        words = ["0xb35fff", "0XB35FFF", "11755519", "0x0000000000B35FFF", "0x0000000000000000B35FFF"]
+        words += ["0000000000B35FFF", "0000000000b35fff", "00000000`00b35fff", "0`00B35FFF", "0x00000000`00b35fff"]
         lines = [place(0xB35FFF, 2, 0x1FFF, 4)] * len(words)
         self.says(["resolve", *self.case, *words], ANSWERED, lines)
         for blanks in ("", " " * 500):
@@ -55,15 +61,31 @@ class Resolve(HostTest):
         self.says(words, ANSWERED, [place(0xB37008, 1, 0x5008, 4)], cwd=self.directory)
 
     def test_refused_cases(self):
+        """Told once and as the case's, whether there are addresses or not."""
         sheet, image, pagefile = self.case
         empty, longer = self.write("empty", b""), self.write("longer", pagefile.read_bytes() + b"x")
-        for case, number in (
-            ((empty, image, pagefile), 10),
-            ((sheet, empty, pagefile), 15),
-            ((sheet, image, longer), 16),
-            ((empty, empty, empty), 10),
+        for case, line in (
+            ((empty, image, pagefile), fault("case", 10)),
+            ((sheet, empty, pagefile), fault("case", 15, ", the image has 0x0 bytes")),
+            ((sheet, image, longer), fault("case", 16, ", the pagefile has 0x2001 bytes")),
+            ((empty, empty, empty), fault("case", 10)),
         ):
-            self.says(["resolve", *case, "0xB35000"], REFUSED, [place(0xB35000, number, 0, 0)])
+            self.says(["resolve", *case], REFUSED, [line])
+            self.says(["resolve", *case, "0xB35000", "0x800000000000"], REFUSED, [line])
+
+    def test_refused_case_for_every_verb(self):
+        case, out = [self.case[0], self.case[2], self.case[2]], self.directory / "out"
+        for verb, *numbers in (
+            ["page"],
+            ["page", "0xB35000", "-o", out],
+            ["read", "0xB35000", "0xFFFFFFFFFFFFFFFF"],
+            ["read", "0xB35000", "0", "-o", out],
+            ["map", "0xB35001", "0", "-o", out],
+            ["processor-block", "--all"],
+            ["list", "0xB35001"],
+        ):
+            self.says([verb, *case, *numbers], REFUSED, [fault("case", 15, ", the image has 0x2000 bytes")])
+        self.assertFalse(out.exists())
 
 
 class PageAndRead(HostTest):
@@ -91,14 +113,14 @@ class PageAndRead(HostTest):
         self.says(["page", *self.case], REFUSED, lines, input=b"0xB38001\n0x1D0000\n")
 
     def test_read_in_one_page(self):
-        lines = [done(0x777B0000, "0x80 bytes"), place(0x777B0000, 1, 0x5000, 9)] + dump(0x777B0000, make_case.MZ[:128])
+        lines = [done(0x777B0000, "0x80 bytes"), stretch(0x777B0000, 1, 0x5000, 0x80)] + dump(0x777B0000, make_case.MZ[:128])
         self.says(["read", *self.case, "0x777B0000", "128"], ANSWERED, lines)
 
     def test_read_of_an_odd_part(self):
-        lines = [done(0x777B004E, "0x27 bytes"), place(0x777B004E, 1, 0x504E, 9)]
+        lines = [done(0x777B004E, "0x27 bytes"), stretch(0x777B004E, 1, 0x504E, 0x27)]
         lines += dump(0x777B004E, make_case.MZ[0x4E:0x75])
         self.says(["read", *self.case, "0x777B004E", "0x27"], ANSWERED, lines)
-        lines = [done(0x777B0000, "0x1 byte"), place(0x777B0000, 1, 0x5000, 9)] + dump(0x777B0000, b"M")
+        lines = [done(0x777B0000, "0x1 byte"), stretch(0x777B0000, 1, 0x5000, 0x1)] + dump(0x777B0000, b"M")
         self.says(["read", *self.case, "0x777B0000", "1"], ANSWERED, lines)
 
     def test_read_of_every_byte_value(self):
@@ -106,16 +128,16 @@ class PageAndRead(HostTest):
         offset = memory.map_page(0x5000)
         memory.bytes[offset : offset + 256] = content
         case = memory.write(self.directory).words()
-        lines = [done(0x5000, "0x100 bytes"), place(0x5000, 1, offset, 4)] + dump(0x5000, content)
+        lines = [done(0x5000, "0x100 bytes"), stretch(0x5000, 1, offset, 0x100)] + dump(0x5000, content)
         self.says(["read", *case, "0x5000", "256"], ANSWERED, lines)
 
     def test_read_over_pages_marks_those_of_zeros(self):
-        lines = [done(0xB37FF8, "0xC bytes"), place(0xB37FF8, 1, 0x5FF8, 4)] + dump(0xB37FF8, bytes(8))
-        lines += [place(0xB38000, 3, 0, 4)] + dump(0xB38000, bytes(4))
+        lines = [done(0xB37FF8, "0xC bytes"), stretch(0xB37FF8, 1, 0x5FF8, 8)] + dump(0xB37FF8, bytes(8))
+        lines += [stretch(0xB38000, 3, 0, 4)] + dump(0xB38000, bytes(4))
         self.says(["read", *self.case, "0xB37FF8", "12"], ANSWERED, lines)
 
     def test_read_to_the_last_byte_of_a_page(self):
-        lines = [done(0xB38FF0, "0x10 bytes"), place(0xB38FF0, 3, 0, 4)] + dump(0xB38FF0, bytes(16))
+        lines = [done(0xB38FF0, "0x10 bytes"), stretch(0xB38FF0, 3, 0, 0x10)] + dump(0xB38FF0, bytes(16))
         self.says(["read", *self.case, "0xB38FF0", "16"], ANSWERED, lines)
 
     def refuses(self, address, length, line):
@@ -134,17 +156,65 @@ class PageAndRead(HostTest):
         self.says(["read", *case, 2**64 - 1, "2"], REFUSED, [place(2**64 - 1, 20)])
 
     def test_read_of_a_refused_case_has_no_refused_address(self):
-        self.says(["read", self.case[1], *self.case[1:], "0x777B0000", "1"], REFUSED, [place(0x777B0000, 12)])
+        self.says(["read", self.case[1], *self.case[1:], "0x777B0000", "1"], REFUSED, [fault("case", 12)])
 
     def test_read_of_nothing(self):
         self.says(["read", *self.case, "0x800000000000", "0"], ANSWERED, [done(0x800000000000, "0x0 bytes")])
 
-    def test_read_longer_than_memory(self):
+    def test_huge_read_is_refused_at_its_first_refused_byte(self):
         for length in ("0xFFFFFFFFFFFFFFFF", "0x7FFFFFFFFFFFFFFF"):
-            self.fails(["read", *self.case, "0x777B0000", length], "not enough memory")
+            self.refuses("0x777B0000", length, place(0x777B0000, 22) + first_at(0x777B1000))
             self.refuses("0x1D0123", length, place(0x1D0123, 22) + first_at(0x1D0123))
             self.refuses("0x800000000000", length, place(0x800000000000, 20) + first_at(0x800000000000))
-            self.says(["read", self.case[1], *self.case[1:], "0x777B0000", length], REFUSED, [place(0x777B0000, 12)])
+            self.says(["read", self.case[1], *self.case[1:], "0x777B0000", length], REFUSED, [fault("case", 12)])
+
+    def test_read_longer_than_memory(self):
+        """Refused far behind its start without memory; not refused, it lacks memory."""
+        length = 64 << 20
+        case = large_page_case(self.directory, length // PAGE).words()
+        line, how, out = place(0, 23) + first_at(length), with_little_memory(length), self.directory / "out"
+        self.says(["read", *case, 0, "0xFFFFFFFFFFFFFFFF"], REFUSED, [line], **how)
+        self.fails(["read", *case, 0, length], "not enough memory", **how)
+        self.fails(["read", *case, 0, length, "-o", out], "not enough memory", **how)
+        self.assertFalse(out.exists())
+
+    def stretches_case(self, start):
+        """Pages of the image, of zeros and of the pagefile; gives the stretches as (address, number, offset, bytes)."""
+        memory, (zeros, in_pagefile) = Memory(16), (0x80, lambda page: page << 32 | 0x80)
+        memory.map_page(start + 9 * PAGE)
+        first, *_ = (memory.map_page(start + k * PAGE) for k in range(3))
+        entries = [zeros, zeros, in_pagefile(1), in_pagefile(2), in_pagefile(4), in_pagefile(3)]
+        for k, entry in enumerate(entries, 3):
+            memory.set_entry(start + k * PAGE, entry)
+        memory.bytes[first : first + 3 * PAGE] = random.Random(1).randbytes(3 * PAGE)
+        pagefile = random.Random(2).randbytes(5 * PAGE)
+        image = bytes(memory.bytes)
+        return memory.write(self.directory, pagefile).words(), [
+            (start, 1, first, image[first : first + 3 * PAGE]),
+            (start + 3 * PAGE, 3, 0, bytes(2 * PAGE)),
+            (start + 5 * PAGE, 2, PAGE, pagefile[PAGE : 3 * PAGE]),
+            (start + 7 * PAGE, 2, 4 * PAGE, pagefile[4 * PAGE :]),
+            (start + 8 * PAGE, 2, 3 * PAGE, pagefile[3 * PAGE : 4 * PAGE]),
+        ]
+
+    def test_read_by_stretches(self):
+        """Pages that follow each other in a file are one stretch, as pages of zeros are; others are not."""
+        start = 0x40000000
+        case, stretches = self.stretches_case(start)
+        lines = [[stretch(address, number, offset, len(content))] for address, number, offset, content in stretches]
+        dumps = [dump(address, content) for address, _, _, content in stretches]
+        first, content = done(start, "0x9000 bytes"), b"".join(content for *_, content in stretches)
+        self.says(["read", *case, start, "0x9000"], ANSWERED, sum((a + b for a, b in zip(lines, dumps)), [first]))
+        shown = run("read", *case, start, "0x9000", "-o", self.directory / "out")
+        self.assertEqual(shown.stdout.decode().splitlines(), sum(lines, [first]))
+        self.assertEqual(shown.stderr.decode(), f"glintloom: 0x{start + 3 * PAGE:016X}: {WORDS[3]}, 0x2000 bytes\n")
+        self.assertEqual((self.directory / "out").read_bytes(), content)
+
+    def test_long_read_into_a_file(self):
+        length = 64 << 20
+        case = large_page_case(self.directory, length // PAGE).words()
+        lines = [done(0, f"0x{length:X} bytes"), stretch(0, 1, 0, length)]
+        self.says(["read", *case, 0, length, "-o", "/dev/null"], ANSWERED, lines)
 
 
 class MapAndLookup(HostTest):
@@ -177,7 +247,8 @@ class MapAndLookup(HostTest):
             (SHIPPED_MAP + b"\0", 14),
             (b"\1\0\1\4", 43),
         ):
-            self.says(["lookup", self.write("map", content), "0xB34000"], REFUSED, [place(0xB34000, number)])
+            for addresses in ([], ["0xB34000"], ["0xB34000", "0x800000000000"]):
+                self.says(["lookup", self.write("map", content), *addresses], REFUSED, [fault("map", number)])
 
     def test_paper_map(self):
         path = self.write("map", bytes.fromhex("01901603010205 1601"))
@@ -197,26 +268,35 @@ class MapAndLookup(HostTest):
 
 
 class BlocksAndLists(HostTest):
+    def setUp(self):
+        super().setUp()
+        self.files, offsets = block_case(self.directory)
+        self.case, (self.first, self.second) = self.files.words(), offsets
+        addresses = [page + place_in_page for page, place_in_page in BLOCK_PLACES]
+        self.lines = [block(offset, address, 1, 4) for offset, address in zip(offsets, addresses)]
+
     def test_processor_block(self):
-        files, (first, second) = block_case(self.directory)
-        case = files.words()
-        self.says(["processor-block", *case], ANSWERED, [place(0, 1, first, 4)])
-        self.says(["processor-block", *case, first], ANSWERED, [place(first, 1, first, 4)])
-        self.says(["processor-block", *case, first + 1], ANSWERED, [place(first + 1, 1, second, 4)])
-        self.says(["processor-block", *case, second + 1], REFUSED, [place(second + 1, 55, 0, 0)])
-        self.says(["processor-block", *case, "0xFFFFFFFFFFFFFFFF"], REFUSED, [place(2**64 - 1, 55, 0, 0)])
+        self.says(["processor-block", *self.case], ANSWERED, self.lines[:1])
+        self.says(["processor-block", *self.case, self.first], ANSWERED, self.lines[:1])
+        self.says(["processor-block", *self.case, self.first + 1], ANSWERED, self.lines[1:])
+        for start in (self.second + 1, 2**64 - 1):
+            self.says(["processor-block", *self.case, start], REFUSED, [no_block(start)])
 
     def test_all_processor_blocks(self):
-        files, (first, second) = block_case(self.directory)
-        case = files.words()
-        lines = [place(0, 1, first, 4), place(first + 1, 1, second, 4)]
-        self.says(["processor-block", "--all", *case], ANSWERED, lines)
-        self.says(["processor-block", "--all", *case, second + 1], REFUSED, [place(second + 1, 55, 0, 0)])
+        self.says(["processor-block", "--all", *self.case], ANSWERED, self.lines)
+        self.says(["processor-block", "--all", *self.case, self.second + 1], REFUSED, [no_block(self.second + 1)])
 
-    def test_processor_block_of_a_refused_case(self):
-        files, _ = block_case(self.directory)
-        files.sheet.write_bytes(b"")
-        self.says(["processor-block", "--all", *files.words()], REFUSED, [place(0, 10, 0, 0)])
+    def test_a_sheet_from_a_block(self):
+        """The directory page is not known: any will do to find the block, whose columns then make the sheet."""
+        runs = [(1, len(self.files.image.read_bytes()) // PAGE)]
+        self.files.sheet.write_bytes(sheet_of(0x999, runs))
+        self.says(["resolve", *self.case, "0xFFFFF80002000100"], REFUSED, [place(0xFFFFF80002000100, 23, 0, 0)])
+        found = run("processor-block", *self.case).stdout.decode()
+        columns = re.fullmatch(r"(0x\w{16}) .*, Self (0x\w{16}), directory page (0x\w{9}), CR3 (0x\w{16}), .*\n", found)
+        offset, address, directory, cr3 = (int(column, 16) for column in columns.groups())
+        self.assertEqual((offset, cr3), (self.first, directory * PAGE))
+        self.files.sheet.write_bytes(sheet_of(directory, runs))
+        self.says(["resolve", *self.case, address], ANSWERED, [place(address, 1, offset, 4)])
 
     def test_list(self):
         for nodes in (0, 1, 2, 300, 4096):
@@ -233,7 +313,7 @@ class BlocksAndLists(HostTest):
         self.says(["list", *case, head + 8], REFUSED, [place(head + 8, 51)])
         self.says(["list", *case, "0x1000"], REFUSED, [place(0x1000, 21)])
         files.sheet.write_bytes(b"\x80\x00")
-        self.says(["list", *case, head], REFUSED, [place(head, 11)])
+        self.says(["list", *case, head], REFUSED, [fault("case", 11)])
 
 
 class ExplainAndHelp(HostTest):
@@ -284,8 +364,8 @@ class PrintedMachine(HostTest):
             place(0x1D0000, 22, 0, 4),
         ]
         self.says(["resolve", *case, "0xB34000", "0x777B0000", "0xB10000", "0x1D0000"], REFUSED, lines)
-        lines = [done(0xB34000, "0x10 bytes"), place(0xB34000, 2, 0x296A2000, 4)]
+        lines = [done(0xB34000, "0x10 bytes"), stretch(0xB34000, 2, 0x296A2000, 0x10)]
         lines += dump(0xB34000, bytes([4, 0, 0, 0, 0, 0, 0, 0]) * 2)
         self.says(["read", *case, "0xB34000", "16"], ANSWERED, lines)
-        lines = [done(0x777B0000, "0x80 bytes"), place(0x777B0000, 1, 0x2312C000, 9)] + dump(0x777B0000, make_case.MZ)
+        lines = [done(0x777B0000, "0x80 bytes"), stretch(0x777B0000, 1, 0x2312C000, 0x80)] + dump(0x777B0000, make_case.MZ)
         self.says(["read", *case, "0x777B0000", "0x80"], ANSWERED, lines)

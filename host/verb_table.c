@@ -1,0 +1,58 @@
+#include "verb_table.h"
+
+#include "arguments.h"
+#include "case_verb.h"
+#include "fail.h"
+
+#include <string.h>
+
+const struct verb verbs[] = {
+    {"case", "CASE", "the directory page, the runs and the lengths of a case",
+     "Shown are the runs of physical memory with their places in the image, and the image length that the sheet asks for\n"
+     "beside the one that the file has; or the case's fault.\n",
+     FILES_OF_CASE, 0, 0, NO_PAGEFILE, case_verb},
+    {"resolve", "CASE [ADDRESS...]", "where each address leads",
+     "For each address the offset in its file, or its refusal, and the page table entries read.\n",
+     FILES_OF_CASE, 0, ANY_COUNT, NO_PAGEFILE, resolve_verb},
+    {"page", "CASE [ADDRESS...]", "the 4,096 bytes of each address's page",
+     "The address that is shown is the page's start.\n",
+     FILES_OF_CASE, 0, ANY_COUNT, NO_PAGEFILE | OUTPUT, page_verb},
+    {"read", "CASE ADDRESS LENGTH", "LENGTH bytes, all or none",
+     "A line comes before each stretch of bytes that lead to one place, and on from there, or are all of pages of zeros.\n"
+     "A refused read names the first address that is refused.\n",
+     FILES_OF_CASE, 2, 2, NO_PAGEFILE | OUTPUT, read_verb},
+    {"map", "CASE START PAGES", "the map of a range of pages",
+     "START is a multiple of 4,096, PAGES is 1 to 1,048,576. Shown are the map's length and bytes.\n",
+     FILES_OF_CASE, 2, 2, NO_PAGEFILE | OUTPUT, map_verb},
+    {"lookup", "MAP [ADDRESS...]", "what a map has for each address",
+     "MAP is a file that 'glintloom map -o' made.\n",
+     1, 0, ANY_COUNT, 0, lookup_verb},
+    {"processor-block", "CASE [FROM]", "the first processor block at image offset FROM or later",
+     "Shown are the block's image offset, its own address (Self) and its directory page (CR3). The search takes no\n"
+     "directory page from the sheet. FROM is 0 if it is left out.\n",
+     FILES_OF_CASE, 0, 1, NO_PAGEFILE | ALL, processor_block_verb},
+    {"list", "CASE HEAD", "the nodes of the process list with this head",
+     "Shown is the address of each node, in order; the head is not among them.\n",
+     FILES_OF_CASE, 1, 1, NO_PAGEFILE, list_verb},
+    {"explain", "[NUMBER...]", "what each number means and what can be done; without one, the words of all",
+     "The numbers are those of answers and refusals.\n",
+     0, 0, ANY_COUNT, 0, explain_verb},
+    {"help", "[VERB]", "this text, or what it says of one verb",
+     "With --help behind it a verb says the same.\n",
+     0, 0, 0, 0, NULL},
+};
+
+const size_t verb_count = sizeof verbs / sizeof verbs[0];
+
+const struct verb *verb_named(const char *name)
+{
+    for (size_t i = 0; i < verb_count; i++)
+        if (strcmp(name, verbs[i].name) == 0)
+            return &verbs[i];
+    fail("no verb '%s'; 'glintloom help' lists them", name);
+}
+
+bool takes_addresses(const struct verb *verb)
+{
+    return verb->files > 0 && verb->most_numbers == ANY_COUNT;
+}
