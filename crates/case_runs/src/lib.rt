@@ -50,8 +50,8 @@ pub fn image_length(sheet: &[u8]) -> Written
         HeaderRead::Refused(refusal) => base::not_written(refusal),
         HeaderRead::Fields(header, at) => {
             let mut rows = [0u64; 1];
-            let none = 0;
-            match sheet::read_runs(sheet, at, header.count, &mut rows[..none]) {
+            let no_rows = 0;
+            match sheet::read_runs(sheet, at, header.count, &mut rows[..no_rows]) {
                 RunsRead::Refused(refusal) => base::not_written(refusal),
                 RunsRead::Laid(pages, end) => {
                     if end != sheet.len() {
