@@ -110,8 +110,9 @@ static const char *const explanations[] = {
         "After 4,096 nodes the list has not come back to its head. No list of processes is so long: see that the head is "
         "PsActiveProcessHead, and not that of another list.",
     [GLINT_LIST_BUFFER_SHORT] =
-        "The list has more nodes than the buffer that was lent for it, and nothing was written. This program lends enough for "
-        "every list; another that calls glint_process_list does so with GLINT_LIST_PROCESSES numbers.",
+        "The list has more nodes, or the sheet more runs, than the buffer that was lent has room for, and nothing was written. "
+        "This program lends enough for all; another that calls glint_process_list does so with GLINT_LIST_PROCESSES numbers, "
+        "one that calls glint_case with GLINT_CASE_NUMBERS.",
     [GLINT_NO_PROCESSOR_BLOCK] =
         "From the given offset on, the image has no processor block (KPCR) of 64-bit Windows 7. A block counts only if its own "
         "address leads back to it by its own directory page (CR3); the sheet's directory page is not asked, but wrong runs "

@@ -90,7 +90,7 @@ class Json(HostTest):
         sheet, image, pagefile = self.case
         for case, fault in (
             ((empty, image, pagefile), {"number": 10, "words": WORDS[10]}),
-            ((sheet, pagefile, pagefile), {"number": 15, "words": WORDS[15], "image_length": "0x2000"}),
+            ((sheet, pagefile, pagefile), {"number": 15, "words": WORDS[15], "asked_length": "0xD000", "image_length": "0x2000"}),
             ((sheet, image, sheet), {"number": 16, "words": WORDS[16], "pagefile_length": f"0x{sheet.stat().st_size:X}"}),
         ):
             for numbers in ([], ["0", "1"]):

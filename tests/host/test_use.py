@@ -306,5 +306,6 @@ class Progress(HostTest):
 class ManualPage(HostTest):
     def test_names_every_verb_and_option(self):
         text = (ROOT / "host" / "glintloom.1").read_text()
-        for word in (*CASE_VERBS, "lookup", "explain", "help", "--json", "--no-pagefile", "--all", "-o", "--help", "--version"):
+        options = ("--json", "--no-pagefile", "--all", "-o", "--help", "--version")
+        for word in (*CASE_VERBS, "lookup", "explain", "help", *options):
             self.assertIn(word.replace("-", "\\-"), text)

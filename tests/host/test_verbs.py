@@ -66,7 +66,7 @@ class Resolve(HostTest):
         empty, longer = self.write("empty", b""), self.write("longer", pagefile.read_bytes() + b"x")
         for case, line in (
             ((empty, image, pagefile), fault("case", 10)),
-            ((sheet, empty, pagefile), fault("case", 15, ", the image has 0x0 bytes")),
+            ((sheet, empty, pagefile), fault("case", 15, ", the sheet asks for 0xD000 bytes, the image has 0x0 bytes")),
             ((sheet, image, longer), fault("case", 16, ", the pagefile has 0x2001 bytes")),
             ((empty, empty, empty), fault("case", 10)),
         ):
@@ -84,7 +84,7 @@ class Resolve(HostTest):
             ["processor-block", "--all"],
             ["list", "0xB35001"],
         ):
-            self.says([verb, *case, *numbers], REFUSED, [fault("case", 15, ", the image has 0x2000 bytes")])
+            self.says([verb, *case, *numbers], REFUSED, [fault("case", 15, ", the sheet asks for 0xD000 bytes, the image has 0x2000 bytes")])
         self.assertFalse(out.exists())
 
 
