@@ -36,7 +36,7 @@ enum glint_kind {
     GLINT_KIND_PLACE,      /* it answers with a place in a file */
     GLINT_KIND_CASE,       /* it refuses the case as a whole; some of these refuse a map too */
     GLINT_KIND_ADDRESS,    /* it refuses an address of the case */
-    GLINT_KIND_CALL        /* it refuses by a rule of its own, on maps, reads, lists or blocks */
+    GLINT_KIND_CALL        /* it refuses by a rule of its own, on maps, reads, lists, blocks or pools */
 };
 
 /* The numbers of the answers, each as (name, number, kind, words). */
@@ -74,7 +74,9 @@ enum glint_kind {
     X(BACK_LINK_DIFFERS, 51, CALL, "back link differs")                                         \
     X(TOO_MANY_PROCESSES, 52, CALL, "over 4,096 processes")                                     \
     X(LIST_BUFFER_SHORT, 53, CALL, "list buffer too short")                                     \
-    X(NO_PROCESSOR_BLOCK, 55, CALL, "no processor block at or after the offset")
+    X(NO_PROCESSOR_BLOCK, 55, CALL, "no processor block at or after the offset")                \
+    X(IMAGE_NOT_WHOLE_PAGES, 70, CALL, "image not whole pages")                                 \
+    X(POOL_BUFFER_SHORT, 71, CALL, "more pool headers than the list buffer has places")
 
 #define GLINT_ENUMERATOR(name, number, kind, words) GLINT_##name = number,
 enum { GLINT_ANSWERS(GLINT_ENUMERATOR) GLINT_REFUSALS(GLINT_ENUMERATOR) GLINT_FIRST_REFUSAL = 10 };
