@@ -87,7 +87,8 @@ enum {
     GLINT_MAP_PAGES = 1 << 20,     /* a map's range has at most these */
     GLINT_LIST_PROCESSES = 4096,   /* a list has at most these, so `out` of this length is never too short */
     GLINT_CASE_RUNS = 32,          /* a case has at most these */
-    GLINT_CASE_NUMBERS = 3 * GLINT_CASE_RUNS    /* `out` of this length is never too short for a case's runs */
+    GLINT_CASE_NUMBERS = 3 * GLINT_CASE_RUNS,   /* `out` of this length is never too short for a case's runs */
+    GLINT_PAGE_POOL_HEADERS = 512  /* a page has at most these, so `out` of as many for each page is never too short */
 };
 
 /* No map is longer: 1, 6 and 3 bytes before the extents, then at most 8 bytes a page (code 1, length 1, first page 6). */
@@ -164,6 +165,12 @@ glint_case_read glint_case(const uint8_t *sheet, size_t sheet_length, uint64_t i
 /* The length in bytes that a sheet asks of its image, or the sheet's own fault, 10 to 14: what glint_case compares with
  * image_length for 15. */
 glint_written glint_image_length(const uint8_t *sheet, size_t sheet_length);
+
+/* The image offsets that hold a pool header of 32-bit Windows XP or later, ascending, into `out`: 70 if the image is not
+ * whole pages, then 71 exactly if there are more headers than out_length; out_length counts 64-bit numbers, and so does the
+ * answer's length. Numbers past it stay. A header depends on its page alone, so an image may be handed in by parts of whole
+ * pages; the offsets are then from the part's start. */
+glint_written glint_pool_headers(const uint8_t *image, size_t image_length, uint64_t *out, size_t out_length);
 
 #ifdef __cplusplus
 }

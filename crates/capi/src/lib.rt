@@ -15,6 +15,7 @@ ghost use Rattle.lookup.specs.Call.{LookupAnswer};
 ghost use Rattle.maps.specs.Call.{MapAnswer};
 ghost use Rattle.processor_block.specs.Call.{BlockAnswer};
 ghost use Rattle.process_list.specs.Call.{ListAnswer};
+ghost use Rattle.pool.specs.Call.{PoolAnswer};
 
 #[no_mangle]
 pub extern "C" fn glint_resolve(sheet: &[u8], image: &[u8], pagefile: &[u8], address: u64) -> Answer
@@ -110,4 +111,11 @@ pub extern "C" fn glint_image_length(sheet: &[u8]) -> Written
     ensures { λ r. ⌜ r ≡ imageLengthOf (now (sheet .entry)) ⌝ }
 {
     case_runs::image_length(sheet)
+}
+
+#[no_mangle]
+pub extern "C" fn glint_pool_headers(image: &[u8], out: &mut [u64]) -> Written
+    ensures { λ r. ⌜ PoolAnswer (now (image .entry)) (now (out .entry)) r (now (out .exit)) ⌝ }
+{
+    pool::pool_headers(image, out)
 }
