@@ -374,6 +374,86 @@ slips! {
         AskedTrailingTaken
         AskedLengthOnRefusal
     ;
+
+    /// The faults in searching the image for pool headers.
+    POOL_SLIPS:
+        NotWholePagesTaken
+        WholeWordsTaken
+        HalfPageTaken
+        EmptyImageRefused
+        NotWholePagesIs71
+        TooManyHeadersIs70
+        SeventyOneBeforeSeventy
+        RoomUnjudged
+        ExactRoomRefused
+        RoomShortByOneTaken
+        RoomCountedInBytes
+        RoomJudgedByFirstPage
+        CountingPassWrites
+        HeaderCountOnRefusal
+        HeaderCountOfBuffer
+        HeaderCountInBytes
+        HeadersClearRest
+        HeadersDescend
+        FirstHeaderDropped
+        LastHeaderDropped
+        OffsetsInUnits
+        OffsetsInPage
+        OffsetsBehindHeader
+        HeadersOfLastPageUnsearched
+        HeadersOfFirstPageOnly
+        FirstWordOfPagePassedOver
+        SecondWordOfPagePassedOver
+        LastWordOfPagePassedOver
+        EverySecondWordPassedOver
+        WordBehindHeaderPassedOver
+        HeadersInsideBlocksPassedOver
+        UnalignedHeaderTaken
+        HeaderAlignedBy4Taken
+        PreviousSizeIn8Bits
+        PreviousSizeIn10Bits
+        BlockSizeIn8Bits
+        BlockSizeIn10Bits
+        SizesInEachOthersPlace
+        SizesCount4Bytes
+        SizesCount32Bytes
+        ByteWideLayout
+        BlockSizeZeroTaken
+        BlockSizeOneRefused
+        EndOneWordPastPageTaken
+        EndPastPageTaken
+        EndAtPageEndRefused
+        PreviousSizeAtStartTaken
+        PreviousSizeZeroTaken
+        ReachBeforePageTaken
+        ReachOneWordBeforePageTaken
+        ReachToStartRefused
+        BlockBeforeNotAsked
+        BlockAtStartNotAsked
+        BeforeComparedWithOwnSize
+        BeforeComparedByItsPreviousSize
+        FreedBlockBeforeExempted
+        BlockBeforeMustCount
+        TagOfBlockBeforeTested
+        BlockBehindNotAsked
+        LastWordOfPageNotAsked
+        BlockInNextPageAsked
+        BehindComparedByItsBlockSize
+        FreedBlockExempted
+        BlockBehindMustCount
+        TagOfBlockBehindTested
+        TagBit7NotTested
+        TagBit15NotTested
+        TagBit23NotTested
+        TagBit31Tested
+        TagMayHaveOneBit
+        TagZeroRefused
+        TagHighestByteFirst
+        PoolTypeTested
+        PoolTypesMustBeAlike
+        FreedBlockRefused
+        PoolIndexTested
+    ;
 }
 
 /// The slip of this list with this name.
