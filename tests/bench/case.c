@@ -2,7 +2,7 @@
 
 #include <string.h>
 
-enum { FRAMES = WALK_IMAGE_BYTES / PAGE_BYTES, NODE_BYTES = 16 };
+enum { FRAMES = WALK_IMAGE_BYTES / PAGE_BYTES, NODE_BYTES = 16, UNITS = PAGE_BYTES / 8, MOST_UNITS = 40 };
 
 #define KERNEL 0xFFFFFA8000000000u
 
@@ -100,14 +100,24 @@ void make_walk_case(struct bench_case *c, uint8_t *image, size_t run_count) {
     make_list(c, map_pages(c, free_pages));
 }
 
-void make_search_case(struct bench_case *c, uint8_t *image, bool zeros) {
+/* Headers one block after the other, each with the size of the one before, type 1 and a tag of letters. */
+static void lay_pool(struct bench_case *c, uint64_t page) {
+    for (uint64_t place = 0, previous = 0, size; place < UNITS; place += size, previous = size) {
+        size = 1 + next_random() % MOST_UNITS;
+        if (size > UNITS - place) size = UNITS - place;
+        put_word(c, page, 8 * place, previous | size << 16 | (uint64_t)1 << 25 | (uint64_t)0x636F7250 << 32);
+    }
+}
+
+void make_search_case(struct bench_case *c, uint8_t *image, enum filling filling) {
     c->image = image;
     c->image_length = SEARCH_IMAGE_BYTES;
     make_runs(c, 1);
     memset(image, 0, c->image_length);
-    for (size_t o = 0; !zeros && o < c->image_length; o += 8) {
+    for (size_t o = 0; filling != ZEROS && o < c->image_length; o += 8) {
         uint64_t word = next_random();
-        if (word % 16 == 0) word |= KERNEL;
+        if (filling == KERNEL_ADDRESSES && word % 16 == 0) word |= KERNEL;
         memcpy(image + o, &word, 8);
     }
+    for (uint64_t page = 0; filling == POOLS && page < c->image_length / PAGE_BYTES; page++) lay_pool(c, page);
 }

@@ -2,7 +2,6 @@
 #ifndef CASE_H
 #define CASE_H
 
-#include <stdbool.h>
 #include <stddef.h>
 #include <stdint.h>
 
@@ -33,8 +32,15 @@ uint64_t next_random(void);
  * kernel space. `image` has room for WALK_IMAGE_BYTES. */
 void make_walk_case(struct bench_case *c, uint8_t *image, size_t run_count);
 
-/* An image of one run without a processor block: zeros, or any words of which one in 16 is a kernel address.
- * `image` has room for SEARCH_IMAGE_BYTES. */
-void make_search_case(struct bench_case *c, uint8_t *image, bool zeros);
+/* What an image has in it that is searched; none has a processor block. */
+enum filling {
+    ZEROS,
+    KERNEL_ADDRESSES, /* one in 16 of any words */
+    NOISE,            /* any words */
+    POOLS             /* blocks of up to 40 units that fill each page, with any words in them */
+};
+
+/* An image of one run. `image` has room for SEARCH_IMAGE_BYTES. */
+void make_search_case(struct bench_case *c, uint8_t *image, enum filling filling);
 
 #endif

@@ -5,7 +5,7 @@
 
 enum { PAGE_BYTES = 4096, MOST_RUNS = 32, MOST_NODES = 4096 };
 
-/* Refusals, as document 01 numbers them. */
+/* Refusals, as documents 01 and 02 number them. */
 enum {
     TRUNCATED = 10,
     NUMBER_MALFORMED = 11,
@@ -26,7 +26,9 @@ enum {
     BACK_LINK_DIFFERS = 51,
     TOO_MANY_PROCESSES = 52,
     LIST_BUFFER_SHORT = 53,
-    NO_PROCESSOR_BLOCK = 55
+    NO_PROCESSOR_BLOCK = 55,
+    IMAGE_NOT_WHOLE_PAGES = 70,
+    TOO_MANY_POOL_HEADERS = 71
 };
 
 #define NO_PAGE UINT64_MAX
@@ -323,5 +325,40 @@ glint_written c_process_list(const uint8_t *sheet, size_t sheet_length, const ui
     struct world w = world_of(&s, image, image_length);
     if ((fault = follow(&w, head, nodes, out_length, &count))) return (glint_written){fault, 0};
     memcpy(out, nodes, count * sizeof *nodes);
+    return (glint_written){0, count};
+}
+
+/* ---- pool headers */
+
+static uint64_t previous_bytes(uint64_t header) { return 8 * (header & 511); }
+
+static uint64_t block_bytes(uint64_t header) { return 8 * (header >> 16 & 511); }
+
+static bool is_pool_header(const uint8_t *page, uint64_t place) {
+    uint64_t header = word_at(page + place), previous = previous_bytes(header), block = block_bytes(header);
+    if (header & (uint64_t)0x00808080 << 32) return false; /* first, as it leaves one in eight of any words */
+    if (block == 0 || place + block > PAGE_BYTES) return false;
+    if ((previous == 0) != (place == 0) || previous > place) return false;
+    if (place != 0 && block_bytes(word_at(page + place - previous)) != previous) return false;
+    return place + block == PAGE_BYTES || previous_bytes(word_at(page + place + block)) == block;
+}
+
+/* Writes what fits, and hands back how many there are. */
+static size_t pool_pass(const uint8_t *image, size_t image_length, uint64_t *out, size_t room) {
+    size_t count = 0;
+    for (uint64_t page = 0; page < image_length; page += PAGE_BYTES)
+        for (uint64_t place = 0; place < PAGE_BYTES; place += 8) {
+            if (!is_pool_header(image + page, place)) continue;
+            if (count < room) out[count] = page + place;
+            count++;
+        }
+    return count;
+}
+
+glint_written c_pool_headers(const uint8_t *image, size_t image_length, uint64_t *out, size_t out_length) {
+    if (image_length % PAGE_BYTES) return (glint_written){IMAGE_NOT_WHOLE_PAGES, 0};
+    size_t count = pool_pass(image, image_length, out, 0);
+    if (count > out_length) return (glint_written){TOO_MANY_POOL_HEADERS, 0};
+    pool_pass(image, image_length, out, out_length);
     return (glint_written){0, count};
 }

@@ -28,6 +28,7 @@ glint_answer c_processor_block(const uint8_t *sheet, size_t sheet_length, const 
 glint_written c_process_list(const uint8_t *sheet, size_t sheet_length, const uint8_t *image, size_t image_length,
                              const uint8_t *pagefile, size_t pagefile_length, uint64_t head,
                              uint64_t *out, size_t out_length);
+glint_written c_pool_headers(const uint8_t *image, size_t image_length, uint64_t *out, size_t out_length);
 
 /* The address call that takes the sheet as checked: its rows and directory are handed in. */
 glint_answer c_resolve_checked(const uint64_t *rows, size_t rows_length, const uint8_t *image, size_t image_length,

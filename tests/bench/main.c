@@ -21,11 +21,13 @@ struct calls {
     __typeof__(glint_map) *map;
     __typeof__(glint_processor_block) *processor_block;
     __typeof__(glint_process_list) *process_list;
+    __typeof__(glint_pool_headers) *pool_headers;
 };
 
-static const struct calls exported = {bench_walk_pages, bench_walk_one,        glint_resolve,     glint_read,
-                                      glint_map,        glint_processor_block, glint_process_list};
-static const struct calls in_c = {c_walk_pages, c_walk_one, c_resolve, c_read, c_map, c_processor_block, c_process_list};
+static const struct calls exported = {bench_walk_pages, bench_walk_one,        glint_resolve,      glint_read,
+                                      glint_map,        glint_processor_block, glint_process_list, glint_pool_headers};
+static const struct calls in_c = {c_walk_pages, c_walk_one,        c_resolve,      c_read,
+                                  c_map,        c_processor_block, c_process_list, c_pool_headers};
 
 static const uint8_t no_pagefile[1];
 static uint64_t random_addresses[ADDRESSES];
@@ -113,6 +115,12 @@ static uint64_t search_block(const struct calls *call, const struct bench_case *
     return sum_of(call->processor_block(CASE(c), 0), 55);
 }
 
+static uint64_t search_pool(const struct calls *call, const struct bench_case *c, uint8_t *out) {
+    glint_written headers = call->pool_headers(c->image, c->image_length, (uint64_t *)(void *)out, OUT_BYTES / 8);
+    unexpected += headers.number != 0;
+    return headers.length;
+}
+
 /* ---- memcpy of the bytes that the work has to go through */
 
 static void copy_large(const struct bench_case *c, uint8_t *out) {
@@ -149,9 +157,18 @@ static const struct work walk_works[] = {
     {"process list of 4,096 nodes, a node", (double)LISTS * LIST_NODES, list_nodes, NULL, NULL},
 };
 
-static const struct work search_works[] = {
-    {"processor block, 256 MiB of zeros, a page", SEARCH_IMAGE_BYTES / PAGE_BYTES, search_block, copy_image, NULL},
-    {"processor block, 256 MiB with kernel addresses, a page", SEARCH_IMAGE_BYTES / PAGE_BYTES, search_block, copy_image, NULL},
+enum { SEARCHED_PAGES = SEARCH_IMAGE_BYTES / PAGE_BYTES };
+
+static const struct {
+    enum filling filling;
+    struct work work;
+} searches[] = {
+    {ZEROS, {"processor block, 256 MiB of zeros, a page", SEARCHED_PAGES, search_block, copy_image, NULL}},
+    {KERNEL_ADDRESSES,
+     {"processor block, 256 MiB with kernel addresses, a page", SEARCHED_PAGES, search_block, copy_image, NULL}},
+    {ZEROS, {"pool headers, 256 MiB of zeros, a page", SEARCHED_PAGES, search_pool, copy_image, NULL}},
+    {NOISE, {"pool headers, 256 MiB of noise, a page", SEARCHED_PAGES, search_pool, copy_image, NULL}},
+    {POOLS, {"pool headers, 256 MiB of dense pools, a page", SEARCHED_PAGES, search_pool, copy_image, NULL}},
 };
 
 static double seconds(void) {
@@ -208,9 +225,9 @@ int main(void) {
         for (int i = 0; i < ADDRESSES; i++) random_addresses[i] = next_random() % ((uint64_t)MAPPED_PAGES * PAGE_BYTES);
         for (size_t i = 0; i < sizeof walk_works / sizeof *walk_works; i++) measure(&walk_works[i], &c, WALK_TURNS);
     }
-    for (size_t i = 0; i < sizeof search_works / sizeof *search_works; i++) {
-        make_search_case(&c, image, i == 0);
-        measure(&search_works[i], &c, SEARCH_TURNS);
+    for (size_t i = 0; i < sizeof searches / sizeof *searches; i++) {
+        make_search_case(&c, image, searches[i].filling);
+        measure(&searches[i].work, &c, SEARCH_TURNS);
     }
     free(image);
     for (int side = 0; side < 3; side++) free(outs[side]);
