@@ -117,6 +117,12 @@ static const char *const explanations[] = {
         "From the given offset on, the image has no processor block (KPCR) of 64-bit Windows 7. A block counts only if its own "
         "address leads back to it by its own directory page (CR3); the sheet's directory page is not asked, but wrong runs "
         "hide every block. Check the runs, and that the machine ran 64-bit Windows 7.",
+    [GLINT_IMAGE_NOT_WHOLE_PAGES] =
+        "Pool headers are looked for page by page, and the image's length is not a multiple of 4,096. It was cut short, or is not "
+        "a raw image: copy it again, without header and filler.",
+    [GLINT_POOL_BUFFER_SHORT] =
+        "The image has more pool headers than the buffer that was lent has places, and nothing was written. This program lends "
+        "enough for all; another that calls glint_pool_headers does so with GLINT_PAGE_POOL_HEADERS numbers for each page.",
 };
 
 const char *explanation_of(uint64_t number)

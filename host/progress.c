@@ -14,6 +14,7 @@
 
 static atomic_uint_fast64_t answers;
 static volatile sig_atomic_t seconds;
+static volatile sig_atomic_t percent;   /* of the work for the next answer; 0: not told */
 static volatile sig_atomic_t running;
 static volatile sig_atomic_t shown;
 
@@ -51,6 +52,11 @@ static void show_progress(int signal_number)
     at = put_text(at, " s, ");
     at = put_decimal(at, answers);
     at = put_text(at, " answered");
+    if (percent > 0) {
+        at = put_text(at, ", ");
+        at = put_decimal(at, (uint64_t)percent);
+        at = put_text(at, " %");
+    }
     *at = '\0';
     shown = true;
     write_to_standard_error(line);
@@ -78,6 +84,12 @@ void start_progress(void)
 void count_answer(void)
 {
     answers++;
+    percent = 0;
+}
+
+void set_progress(uint64_t done, uint64_t whole)
+{
+    percent = (sig_atomic_t)(100 * done / whole);
 }
 
 static void erase_line(void)

@@ -20,6 +20,7 @@ static bool document_open;  /* JSON: {"verb": .. stands */
 static bool answers_open;   /* JSON: "answers":[ stands */
 static bool comma_due;      /* JSON: something stands before in this object or array */
 static bool line_open;      /* lines: the item's line has no end yet */
+static volatile sig_atomic_t headers_open;      /* JSON: an answer's list of pool headers, which is handed on in parts */
 static volatile sig_atomic_t between_answers;   /* JSON: some were handed on, and none was begun since */
 
 static void check_output(bool written)
@@ -116,6 +117,8 @@ static void open_report(void)
 static void put_failure(const char *message)
 {
     open_report();
+    if (headers_open)
+        fputs("]}", stdout);
     close_json(']');
     put_name("error");
     put_json_text(message);
@@ -125,8 +128,9 @@ static void put_failure(const char *message)
 /* For a signal that ends the program while it waits or works. One that comes within an answer cuts the document. */
 static void close_document_for_signal(void)
 {
-    static const char end[] = "],\"error\":\"ended by a signal\"}\n";
-    ssize_t written = between_answers ? write(STDOUT_FILENO, end, sizeof end - 1) : 0;
+    static const char end[] = "]}],\"error\":\"ended by a signal\"}\n";
+    size_t begin = headers_open ? 0 : 2;
+    ssize_t written = between_answers ? write(STDOUT_FILENO, end + begin, sizeof end - 1 - begin) : 0;
     (void)written;
     between_answers = false;
 }
@@ -315,6 +319,41 @@ void add_count(const char *name, uint64_t count, const char *word)
         put_json_count(name, count);
     else
         printf(", %" PRIu64 " %s%s", count, word, count == 1 ? "" : "s");
+}
+
+void begin_headers(uint64_t image_length)
+{
+    if (!json)
+        return;
+    begin_item("image_length", image_length, GLINT_DONE);
+    begin_items("headers");
+    headers_open = true;
+}
+
+void add_headers(uint64_t start, const uint8_t *part, const uint64_t *offsets, uint64_t count)
+{
+    open_report();
+    for (uint64_t i = 0; i < count; i++) {
+        if (json) {
+            put_comma();
+            printf("\"0x%" PRIX64 "\"", start + offsets[i]);
+        } else {
+            print_hex_dump(start + offsets[i], part + offsets[i], POOL_HEADER_BYTES);
+        }
+    }
+    hand_on_answers();
+}
+
+void end_headers(uint64_t image_length, uint64_t count)
+{
+    headers_open = false;
+    if (json) {
+        end_items();
+    } else {
+        begin_item("image_length", image_length, GLINT_DONE);
+        printf(", %" PRIu64 " %s", count, count == 1 ? "header" : "headers");
+    }
+    end_answer();
 }
 
 void end_item(void)

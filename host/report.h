@@ -31,6 +31,12 @@ void begin_range(uint64_t start, uint64_t last);
 /* A value in hex and a count, by the name in JSON and in words; a count's words are those of one. */
 void add_value(const char *name, const char *words, uint64_t value);
 void add_count(const char *name, uint64_t count, const char *word);
+/* Pool headers, an outermost item that is handed on part by part: rows of a hex dump and, behind the last, the item's line;
+ * or offsets in JSON. The offsets of a part count from its start. */
+enum { POOL_HEADER_BYTES = 8 };
+void begin_headers(uint64_t image_length);
+void add_headers(uint64_t start, const uint8_t *part, const uint64_t *offsets, uint64_t count);
+void end_headers(uint64_t image_length, uint64_t count);
 
 /* Items of the item at hand. */
 void begin_items(const char *name);

@@ -3,6 +3,7 @@
 #include "arguments.h"
 #include "case_verb.h"
 #include "fail.h"
+#include "pool_verb.h"
 
 #include <string.h>
 
@@ -34,6 +35,9 @@ const struct verb verbs[] = {
     {"list", "CASE HEAD", "the nodes of the process list with this head",
      "Shown is the address of each node, in order; the head is not among them.\n",
      FILES_OF_CASE, 1, 1, NO_PAGEFILE, list_verb},
+    {"pool", "IMAGE", "the pool headers of a 32-bit machine's image, each with its 8 bytes",
+     "IMAGE is an image alone, of whole pages. Behind the last header stand the image's length and how many there are.\n",
+     1, 0, 0, 0, pool_verb},
     {"explain", "[NUMBER...]", "what each number means and what can be done; without one, the words of all",
      "The numbers are those of answers and refusals.\n",
      0, 0, ANY_COUNT, 0, explain_verb},

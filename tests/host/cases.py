@@ -127,6 +127,19 @@ def block_case(directory):
     return memory.write(directory), offsets
 
 
+UNIT = 8
+PAGE_UNITS = PAGE // UNIT
+
+
+def pool_page(*sizes):
+    """A page of pool blocks, sizes in units of 8 bytes; each header has type 5 and the protected tag of processes."""
+    page, at, before = bytearray(PAGE), 0, 0
+    for size in sizes:
+        struct.pack_into("<HH4s", page, at, before, size | 5 << 9, b"Pro\xE3")
+        at, before = at + UNIT * size, size
+    return bytes(page)
+
+
 RING_PAGES = 1 << 20
 
 

@@ -3,7 +3,7 @@ import json
 import random
 from collections import Counter
 
-from cases import PAGE, SHIPPED, block_case, list_case, make_case
+from cases import PAGE, SHIPPED, block_case, list_case, make_case, pool_page
 from expected import REFUSALS
 from library import Library
 from program import run
@@ -53,6 +53,7 @@ class Damage:
         self.cases = [[path.read_bytes() for path in list_files.words()]]
         self.cases.append([path.read_bytes() for path in block_case(directory)[0].words()])
         self.shipped = [(SHIPPED / name).read_bytes() for name in ("sheet", "image", "pagefile")]
+        self.pools = pool_page(1, 2, 509) + bytes(PAGE) + pool_page(*[4] * 128)
         self.cases.append(self.shipped)
 
     def address(self):
@@ -83,9 +84,9 @@ class Damage:
                 self.met[self.paths[place_in_case].name] += 1
         for path, content in zip(self.paths, case):
             path.write_bytes(content)
-        verbs = (self.case, self.resolve, self.page, self.read, self.map, self.lookup, self.processor_block, self.list)
+        verbs = (self.case, self.resolve, self.page, self.read, self.map, self.lookup, self.processor_block, self.list, self.pool)
         verb, fault = self.chance.choice(verbs), self.library.resolve(case, 0)[0]
-        if fault in CASE_FAULTS and verb not in (self.lookup, self.case):
+        if fault in CASE_FAULTS and verb not in (self.lookup, self.case, self.pool):
             self.refused_case(fault)
         else:
             verb(case)
@@ -161,3 +162,11 @@ class Damage:
         shown = self.run_json("list", *self.paths, head)[0]
         nodes = [int(node, 16) for node in shown.get("nodes", [])]
         self.expect(("list", head), (shown["number"], nodes), self.library.process_list(case, head))
+
+    def pool(self, _case):
+        content = damaged(self.pools, self.chance)
+        path = self.directory / "pools"
+        path.write_bytes(content)
+        shown = self.run_json("pool", path)[0]
+        headers = [int(header, 16) for header in shown.get("headers", [])]
+        self.expect(("pool",), (shown["number"], headers), self.library.pool_headers(content))

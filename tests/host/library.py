@@ -16,6 +16,7 @@ RETURNS = {
     "glint_process_list": 2,
     "glint_case": 3,
     "glint_image_length": 2,
+    "glint_pool_headers": 2,
 }
 
 
@@ -79,3 +80,9 @@ class Library:
 
     def image_length(self, sheet):
         return self.call("glint_image_length", [sheet])
+
+    def pool_headers(self, image):
+        """Number and offsets, with a place for each word."""
+        room = (U64 * (len(image) // 8))()
+        number, length = self.call("glint_pool_headers", [image], room, SIZE(len(room)))
+        return number, list(room[:length])

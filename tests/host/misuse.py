@@ -10,7 +10,7 @@ from expected import REFUSALS, place
 from library import Library
 from program import ANSWERED, FAILED, REFUSED, run
 
-VERBS = ("case", "resolve", "page", "read", "map", "lookup", "processor-block", "list", "explain", "help")
+VERBS = ("case", "resolve", "page", "read", "map", "lookup", "processor-block", "list", "pool", "explain", "help")
 OPTIONS = ("-o", "--json", "--no-pagefile", "--all", "--", "-h", "--help", "--version", "-", "-oout", "--json=1")
 NUMBERS = ("0", "1", "0x", "-1", "00", "0x1000", "4096", "18446744073709551615", "18446744073709551616", "fffff8a0`02bd2ed8")
 

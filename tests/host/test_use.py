@@ -7,7 +7,7 @@ import signal
 import subprocess
 import time
 
-from cases import shipped_case
+from cases import pool_page, shipped_case
 from expected import place
 from program import ANSWERED, ENVIRONMENT, FAILED, ROOT, Conversation, HostTest, command, run, run_redirected
 
@@ -52,6 +52,7 @@ class WrongUse(HostTest):
         self.fails(["lookup", "--no-pagefile", "map", "0"], "lookup takes no --no-pagefile")
         self.fails(["list", "--all", *self.case, "0"], "list takes no --all")
         self.fails(["help", "--all"], "help takes no --all")
+        self.fails(["pool", "--no-pagefile", self.case[1]], "pool takes no --no-pagefile")
 
     def test_counts_of_operands(self):
         for words in (
@@ -65,6 +66,7 @@ class WrongUse(HostTest):
             ["map", *self.case, "0"],
             ["list", *self.case],
             ["lookup"],
+            ["pool"],
         ):
             self.fails(words, "too few operands")
         for words in (
@@ -72,6 +74,7 @@ class WrongUse(HostTest):
             ["map", *self.case, "0", "1", "2"],
             ["list", *self.case, "0", "8"],
             ["processor-block", *self.case, "0", "8"],
+            ["pool", *self.case[:2]],
             ["help", "resolve", "page"],
         ):
             self.fails(words, "too many operands")
@@ -137,6 +140,8 @@ class InputFiles(HostTest):
         for verb, numbers in CASE_VERBS.items():
             self.fails([verb, *words, *numbers], message)
         self.fails(["lookup", name, "0"], message)
+        self.fails(["pool", name], message)
+        self.fails(["pool", "--json", name], message)
 
     def test_missing(self):
         self.each_place(self.directory / "missing", "missing: No such file or directory")
@@ -157,7 +162,8 @@ class InputFiles(HostTest):
 
     def test_unreadable(self):
         self.case[1].chmod(0)
-        self.fails(["resolve", *self.case, "0"], "image: Permission denied", **self.as_nobody())
+        for words in (["resolve", *self.case, "0"], ["pool", self.case[1]]):
+            self.fails(words, "image: Permission denied", **self.as_nobody())
 
     def test_closed_input(self):
         """No file takes the descriptor of a closed standard input."""
@@ -183,6 +189,7 @@ class StandardOutput(HostTest):
             ["map", *self.case, "0xB34000", "1"],
             ["processor-block", *self.case],
             ["list", *self.case, "0"],
+            ["pool", self.case[1]],
             ["explain"],
             ["help"],
         )
@@ -280,6 +287,16 @@ class Progress(HostTest):
         before, between, after = (f"({self.LINES % count}+{self.ERASED})" for count in (0, 1, 2))
         self.assertRegex(shown, rf"\A{before}?{answer}{between}{answer}{after}?end\Z")
 
+    def test_share_of_an_answer(self):
+        """How much of an image is searched, while nobody takes the headers of the first part."""
+        image = self.write("pools", pool_page(*[32] * 16) * 512)
+        talk = Conversation("pool", image, stderr=self.writer)
+        shown = self.shown_until("%")
+        status, out, _ = talk.end()
+        self.assertEqual((status, len(out.splitlines())), (ANSWERED, 16 * 512 + 1))
+        shown += self.shown_to_the_end()
+        self.assertRegex(shown, rf"\A({self.LINES % 0}, 50 %)+{self.ERASED}end\Z")
+
     def test_not_within_a_document(self):
         """JSON on the same terminal is one line, which stays."""
         talk = Conversation("resolve", "--json", *self.case, stdout=self.writer, stderr=self.writer)
@@ -307,5 +324,5 @@ class ManualPage(HostTest):
     def test_names_every_verb_and_option(self):
         text = (ROOT / "host" / "glintloom.1").read_text()
         options = ("--json", "--no-pagefile", "--all", "-o", "--help", "--version")
-        for word in (*CASE_VERBS, "lookup", "explain", "help", *options):
+        for word in (*CASE_VERBS, "lookup", "pool", "explain", "help", *options):
             self.assertIn(word.replace("-", "\\-"), text)

@@ -347,7 +347,7 @@ class ExplainAndHelp(HostTest):
         for word in ("help", "--help", "-h"):
             shown = run(word)
             self.assertEqual((shown.returncode, shown.stderr), (ANSWERED, b""))
-            for verb in ("resolve", "page", "read", "map", "lookup", "processor-block", "list", "explain", "help"):
+            for verb in ("resolve", "page", "read", "map", "lookup", "processor-block", "list", "pool", "explain", "help"):
                 self.assertIn(f"\nglintloom {verb} ", shown.stdout.decode())
             self.assertIn("\nExit status: 0 answered; 1 refused", shown.stdout.decode())
 
