@@ -107,11 +107,19 @@ static uint64_t word_at(const uint8_t *bytes) {
 }
 
 static uint64_t page_of_frame(const struct world *w, uint64_t frame) {
-    for (size_t i = 0; i < w->row_numbers; i += 3)
-        if (w->rows[i] <= frame && frame < w->rows[i + 1]) {
-            uint64_t page = frame - w->rows[i + 2];
+    size_t low = 0, high = w->row_numbers / 3;
+    while (low < high) {
+        size_t middle = low + (high - low) / 2;
+        const uint64_t *row = w->rows + 3 * middle;
+        if (frame < row[0]) {
+            high = middle;
+        } else if (frame < row[1]) {
+            uint64_t page = frame - row[2];
             return page < w->image_length / PAGE_BYTES ? page : NO_PAGE;
+        } else {
+            low = middle + 1;
         }
+    }
     return NO_PAGE;
 }
 

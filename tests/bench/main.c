@@ -171,6 +171,8 @@ static const struct {
     {POOLS, {"pool headers, 256 MiB of dense pools, a page", SEARCHED_PAGES, search_pool, copy_image, NULL}},
 };
 
+static const size_t run_counts[] = {1, 2, 8, MOST_RUNS};
+
 static double seconds(void) {
     struct timespec t;
     clock_gettime(CLOCK_MONOTONIC, &t);
@@ -220,8 +222,8 @@ int main(void) {
         memset(outs[side], 0, bytes);
     }
     printf("%-56s %4s %10s %10s %7s %10s %11s\n", "", "runs", "ours, ns", "C, ns", "ours/C", "memcpy, ns", "ours/memcpy");
-    for (size_t runs = 1; runs <= MOST_RUNS; runs *= MOST_RUNS) {
-        make_walk_case(&c, image, runs);
+    for (size_t k = 0; k < sizeof run_counts / sizeof *run_counts; k++) {
+        make_walk_case(&c, image, run_counts[k]);
         for (int i = 0; i < ADDRESSES; i++) random_addresses[i] = next_random() % ((uint64_t)MAPPED_PAGES * PAGE_BYTES);
         for (size_t i = 0; i < sizeof walk_works / sizeof *walk_works; i++) measure(&walk_works[i], &c, WALK_TURNS);
     }

@@ -7,10 +7,10 @@ pub const ENTRIES_IN_TABLE: u64 = 512;
 pub const LAST_LEVEL: u32 = 4;
 const FRAME_LIMIT: u64 = 1 << 36;
 
-const VALID: u64 = 1;
+pub const VALID: u64 = 1;
 const LARGE: u64 = 1 << 7;
 const PROTOTYPE: u64 = 1 << 10;
-const TRANSITION: u64 = 1 << 11;
+pub const TRANSITION: u64 = 1 << 11;
 
 /// Bits 16-63 of a prototype entry that leaves its page to the region record.
 const VAD_PROTOTYPE: u64 = 0xFFFF_FFFF_0000;

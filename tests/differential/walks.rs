@@ -12,6 +12,7 @@ mod common {
     pub mod tally;
 }
 mod exports;
+mod run_edges;
 // Each test uses its own part of the second reader.
 #[allow(dead_code)]
 #[path = "../second"]
@@ -30,6 +31,7 @@ use common::case_files::CaseFiles;
 use common::codes::{address_numbers, CASE_REFUSALS, NOT_CANONICAL, PAGE_REFUSALS, PLACES};
 use common::print::{hex, with_commas};
 use common::tally::{print_table, Tally, LEAST_TIMES};
+use run_edges::{each_edge, Edge, EdgeTimes};
 use second::bytes;
 use second::slip::{Slip, WALK_SLIPS};
 use second::walk::{self, word_at, Files, Place};
@@ -47,6 +49,9 @@ const MOST_PROTOTYPES: usize = 3;
 /// The most entries that an address can take.
 const MOST_ENTRIES: u64 = 19;
 
+/// For so many cases each edge of the runs is asked once more: LEAST_TIMES times for the usual ones.
+const CASES_AN_EDGE: u64 = 2_000;
+
 /// How many differing cases are printed.
 const MOST_SHOWN: usize = 5;
 
@@ -57,9 +62,13 @@ fn main() -> ExitCode {
     arguments::run("walks", 200_000, WALK_SLIPS, |arguments| {
         let mut comparison = Comparison::new(arguments.slip);
         each_question(arguments.seed, arguments.cases, &mut |files, question| {
-            comparison.compare(files, question)
+            comparison.compare(files, question);
         });
-        report(&comparison)
+        let times = arguments.cases / CASES_AN_EDGE;
+        each_edge(arguments.seed, times, &mut |files, edge| {
+            comparison.meet(files, edge)
+        });
+        report(&comparison, times.min(LEAST_TIMES))
     })
 }
 
@@ -75,6 +84,7 @@ struct Comparison {
     /// By the prototype entries followed: all answers of accepted cases, and those found.
     chains: [[u64; 2]; MOST_PROTOTYPES + 1],
     most_entries: u64,
+    edges: EdgeTimes,
     differing: u64,
     shown: Vec<String>,
     pattern: Vec<u8>,
@@ -90,6 +100,7 @@ impl Comparison {
             read: Tally::new("read", read_numbers()),
             chains: [[0; 2]; MOST_PROTOTYPES + 1],
             most_entries: 0,
+            edges: EdgeTimes::new(),
             differing: 0,
             shown: Vec::new(),
             pattern: (0..MOST_ROOM + GUARD).map(pattern_byte).collect(),
@@ -97,7 +108,14 @@ impl Comparison {
         }
     }
 
-    fn compare(&mut self, files: &CaseFiles, question: &Question) {
+    fn meet(&mut self, files: &CaseFiles, edge: &Edge) {
+        if self.compare(files, &edge.question) == edge.wanted {
+            self.edges.count(edge);
+        }
+    }
+
+    /// Hands back the exported address call's number, offset and entries.
+    fn compare(&mut self, files: &CaseFiles, question: &Question) -> [u64; 3] {
         self.cases += 1;
         let resolved = self.resolve(files.lent(), question.address);
         let parts = pages(files.lent(), question.address, self.slip);
@@ -110,7 +128,7 @@ impl Comparison {
                 .iter()
                 .all(|pair| pair[0] == pair[1]);
         if same {
-            return;
+            return resolved[0];
         }
         self.differing += 1;
         if self.shown.len() < MOST_SHOWN {
@@ -127,6 +145,7 @@ impl Comparison {
             }
             self.shown.push(text);
         }
+        resolved[0]
     }
 
     fn resolve(&mut self, files: Files, address: u64) -> Pair {
@@ -254,7 +273,7 @@ fn entries_text(files: Files, address: u64, slip: Slip) -> String {
 }
 
 /// Prints the tables and every reason to fail; true if there is none.
-fn report(comparison: &Comparison) -> bool {
+fn report(comparison: &Comparison, least_edge_times: u64) -> bool {
     print_table(&[&comparison.resolved, &comparison.read]);
     println!("{:>6} {:>12} {:>12}", "depth", "answers", "found");
     for (chain, [answers, found]) in comparison.chains.iter().enumerate() {
@@ -262,11 +281,12 @@ fn report(comparison: &Comparison) -> bool {
         println!("{:>6} {:>12} {:>12}", chain, answers, found);
     }
     println!("most entries read: {}", comparison.most_entries);
+    comparison.edges.print();
     comparison
         .shown
         .iter()
         .for_each(|text| println!("{}", text));
-    let reasons = reasons_to_fail(comparison);
+    let reasons = reasons_to_fail(comparison, least_edge_times);
     reasons.iter().for_each(|reason| println!("{}", reason));
     if reasons.is_empty() {
         println!("walks: {} cases agree", with_commas(comparison.cases));
@@ -274,7 +294,7 @@ fn report(comparison: &Comparison) -> bool {
     reasons.is_empty()
 }
 
-fn reasons_to_fail(comparison: &Comparison) -> Vec<String> {
+fn reasons_to_fail(comparison: &Comparison, least_edge_times: u64) -> Vec<String> {
     let mut reasons = Vec::new();
     if comparison.differing > 0 {
         reasons.push(format!("differs: {}", comparison.differing));
@@ -289,6 +309,7 @@ fn reasons_to_fail(comparison: &Comparison) -> Vec<String> {
             ));
         }
     }
+    reasons.extend(comparison.edges.reasons(least_edge_times));
     if comparison.most_entries != MOST_ENTRIES {
         reasons.push(format!("most entries read: wanted {}", MOST_ENTRIES));
     }

@@ -1,6 +1,6 @@
 -- What a caller of `open_case` has: the refusal of the check, or the world of the accepted case.
 use mathlib.Core.Path.{_≡_, refl, sym, ap, _∙_}
-use mathlib.Core.List.{List, [], _∷_}
+use mathlib.Core.List.{List}
 use Prim.Native.Nat.{ℕ, zero, suc, _+_, _*_, _≤_}
 use native.Mathlib.Omega.{arith}
 use lib.ListN.{length, take}
@@ -18,6 +18,7 @@ use Rattle.sheet.proofs.AcceptedCase.{AcceptedCase, accepted-laws}
 use Rattle.sheet.proofs.Short.{few-bytes}
 use Rattle.walk.specs.Walk.{World, worldOf, resolveOf, Grounded}
 use Rattle.walk.specs.Rows.{rowsWorld}
+use Rattle.walk.proofs.Ascending.{rows-length}
 use Rattle.walk.proofs.Ground.{Sound, grounded}
 use Rattle.walk.proofs.CaseWorld.{same-world, sound-case}
 use Rattle.case.specs.Case.{Case, checkOf}
@@ -62,10 +63,6 @@ refused-case c old v new r q f = go (checkOf c) (sym (q .same) ∙ f)
     go : (d : Read Sheet) → openedOf d ≡ Refused r → d ≡ refused r
     go (got s at) k = absurd (let z : _≡_ {A = ℕ} 0 1 = cc in omega arith)
     go (refused x) k = cc
-
-rows-length : (pages : ℕ) (rs : List Run) → length (rowsFrom pages rs) ≡ 3 * length rs
-rows-length pages [] = refl
-rows-length pages (r ∷ rs) = omega (arith, rows-length (pages + r .pages) rs)
 
 -- the rows stand at the front of numbers that are enough
 rows-front : (old : List ℕ) (rs : List Run) → 3 * length rs ≤ length old → take (3 * length rs) (sets old 0 (rowsFrom 0 rs)) ≡ rowsFrom 0 rs

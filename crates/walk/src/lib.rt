@@ -12,7 +12,8 @@ ghost use Prim.Native.Nat.{_-_, _/_, _%_, _^_, _≤_, _<_};
 ghost use lib.ListN.{length};
 ghost use Rattle.entry.specs.Entry.{levelOf};
 ghost use Rattle.walk.specs.Walk.{frameIn, inPage, pagefilePlace, settleOf, descendOf, wordOf, resolveOf};
-ghost use Rattle.walk.specs.Rows.{pageInRows, rowsPage, rowsWorld, TableInside, entryRead, descentOf, noTable, endedAfter, WordInside, refusedPlace, prototypeStep, resolvedOf};
+ghost use Rattle.walk.specs.Search.{searchOf, halvings};
+ghost use Rattle.walk.specs.Rows.{rowsPage, rowsWorld, TableInside, entryRead, descentOf, noTable, endedAfter, WordInside, refusedPlace, prototypeStep, resolvedOf};
 
 // 01 "One address": the lowest address bit of the index at each level, from the last up.
 const BIT_12: u64 = 0x1000;
@@ -31,6 +32,12 @@ const PAGES_1G: u64 = 0x40000;
 pub enum ImagePage {
     Page(u64),
     Absent,
+}
+
+// What a search for a frame found, and how many runs it looked at.
+pub struct Search {
+    pub page: ImagePage,
+    pub looks: u64,
 }
 
 // Where an address leads.
@@ -59,22 +66,33 @@ pub struct Resolved {
     pub entries: u64,
 }
 
-// The image page of a frame: the first row that has it.
-fn find_page(rows: &[u64], f: Frame) -> ImagePage
-    ensures { λ r. ⌜ r ≡ pageInRows (now (rows .entry)) f ⌝ }
+// The image page of a frame, by halving: `left` rows are in question, the first starts at `low`, the middle one at `row`.
+fn find_page(rows: &[u64], f: Frame) -> Search
+    ensures { λ r. ⌜ (r ≡ searchOf (now (rows .entry)) f) × (r .looks ≤ halvings (length (now (rows .entry)) / 3)) ⌝ }
 {
     let n = f.number();
-    let mut i = 0;
-    while i + 2 < rows.len() {
-        if rows[i] <= n {
-            if n < rows[i + 1] {
-                let skipped = rows[i + 2];
-                return ImagePage::Page(saturating_sub(n, skipped));
+    let mut low = 0;
+    let mut left = rows.len() / 3;
+    let mut row = 3 * (left / 2);
+    let mut looks = 0;
+    while 0 < left {
+        looks += 1;
+        if n < rows[row] {
+            left = left / 2;
+            row = low + 3 * (left / 2);
+        } else {
+            if n < rows[row + 1] {
+                let skipped = rows[row + 2];
+                let page = ImagePage::Page(saturating_sub(n, skipped));
+                return Search { page, looks };
             }
+            low = row + 3;
+            left = (left - 1) / 2;
+            row = low + 3 * (left / 2);
         }
-        i += 3;
     }
-    ImagePage::Absent
+    let page = ImagePage::Absent;
+    Search { page, looks }
 }
 
 fn saturating_sub(n: u64, m: u64) -> u64
@@ -87,7 +105,8 @@ fn saturating_sub(n: u64, m: u64) -> u64
 fn locate(rows: &[u64], size: u64, f: Frame) -> ImagePage
     ensures { λ r. ⌜ r ≡ rowsPage (now (rows .entry)) size f ⌝ }
 {
-    let found = find_page(rows, f);
+    let search = find_page(rows, f);
+    let found = search.page;
     match found {
         ImagePage::Absent => ImagePage::Absent,
         ImagePage::Page(p) => {
