@@ -27,7 +27,7 @@ static const char *const explanations[] = {
         "does not have (80 00 in place of 00). It was written so, or a byte before it is missing or too many, so that fields "
         "are read at the wrong place. Write each number in its shortest form, and count the fields.",
     [GLINT_OUT_OF_LIMITS] =
-        "The edition is not 1, or a number is outside its limits: each is below 2^36, a sheet has 1 to 32 runs, and a map 1 to "
+        "The edition is not 1, or a number is outside its limits: each is below 2^36, a sheet has 1 to 1,000 runs, and a map 1 to "
         "1,048,576 pages in one half of the addresses. A file that is no sheet or no map is mostly refused so: see first that "
         "the files stand in the order SHEET IMAGE PAGEFILE.",
     [GLINT_BAD_RUN] =

@@ -86,7 +86,7 @@ enum {
     GLINT_PAGE_BYTES = 4096,
     GLINT_MAP_PAGES = 1 << 20,     /* a map's range has at most these */
     GLINT_LIST_PROCESSES = 4096,   /* a list has at most these, so `out` of this length is never too short */
-    GLINT_CASE_RUNS = 32,          /* a case has at most these */
+    GLINT_CASE_RUNS = 1000,         /* a case has at most these */
     GLINT_CASE_NUMBERS = 3 * GLINT_CASE_RUNS,   /* `out` of this length is never too short for a case's runs */
     GLINT_PAGE_POOL_HEADERS = 512  /* a page has at most these, so `out` of as many for each page is never too short */
 };

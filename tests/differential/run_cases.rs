@@ -14,7 +14,7 @@ pub struct Question {
     pub room: usize,
 }
 
-const MOST_RUNS: u64 = 32;
+const MOST_RUNS: u64 = 1000;
 
 /// The fields before the runs: edition, directory page, run count.
 const FIELDS_BEFORE_RUNS: usize = 3;
@@ -64,10 +64,11 @@ fn question(random: &mut Xorshift) -> Question {
 
 /// Edition, directory page, run count, then gap and length of each run, all within their limits.
 fn good_fields(random: &mut Xorshift) -> Vec<u64> {
-    let runs = match random.below(4) {
-        0 => 1,
-        1 => MOST_RUNS,
-        _ => 1 + random.below(MOST_RUNS),
+    let runs = match random.below(64) {
+        0..=15 => 1,
+        16 => MOST_RUNS,
+        17..=19 => 1 + random.below(MOST_RUNS),
+        _ => 1 + random.below(40),
     };
     let widest = 1 + random.below(36);
     let mut fields = vec![1, random.up_to_bits(36), runs];

@@ -74,7 +74,7 @@ class Library:
     def case(self, case):
         """Number, directory page and runs as (first frame, pages, image page)."""
         sheet, image, pagefile = case
-        room = (U64 * 96)()
+        room = (U64 * 3000)()
         number, directory, runs = self.call("glint_case", [sheet], len(image), len(pagefile), room, SIZE(len(room)))
         return number, directory, [tuple(room[3 * k : 3 * k + 3]) for k in range(runs)]
 

@@ -1,13 +1,16 @@
 -- What a caller of `open_case` has: the refusal of the check, or the world of the accepted case.
 use mathlib.Core.Path.{_≡_, refl, sym, ap, _∙_}
 use mathlib.Core.List.{List}
+use mathlib.Core.Bool.{true}
 use Prim.Native.Nat.{ℕ, zero, suc, _+_, _*_, _≤_}
 use native.Mathlib.Omega.{arith}
 use lib.ListN.{length, take}
 use lib.Seq.{sets, sets-eq, take-at}
 use Rattle.base.specs.declared.Refusal.{Refusal}
 use Rattle.varint.specs.Reader.{Read, got, refused}
+use Rattle.varint.specs.Edition.{editionFields}
 use Rattle.sheet.specs.Sheet.{Sheet, sheetOf}
+use Rattle.sheet.specs.Inner.{fewRuns}
 use Rattle.sheet.specs.Call.{rowsFrom, RowsLaid, sheetRead, SheetAnswer}
 use Rattle.sheet.specs.declared.AddressSpace.{AddressSpace}
 use Rattle.sheet.specs.declared.Header.{Header}
@@ -15,7 +18,7 @@ use Rattle.sheet.specs.declared.Run.{Run}
 use Rattle.sheet.specs.declared.SheetRead.{SheetRead}
 use Rattle.sheet.specs.declared.SheetRead.the-variants as sheet-read
 use Rattle.sheet.proofs.AcceptedCase.{AcceptedCase, accepted-laws}
-use Rattle.sheet.proofs.Short.{few-bytes}
+use Rattle.sheet.proofs.Short.{few-bytes, few-runs}
 use Rattle.walk.specs.Walk.{World, worldOf, resolveOf, Grounded}
 use Rattle.walk.specs.Rows.{rowsWorld}
 use Rattle.walk.proofs.Ascending.{rows-length}
@@ -30,10 +33,10 @@ use Rattle.case.specs.declared.Opened.the-variants.{Ready, Refused}
 -- ---- open_case
 
 -- three numbers a run cannot overflow
-pub few-rows : (bytes : List ℕ) (image pagefile : ℕ) (v : SheetRead) (h : Header) → v ≡ sheetRead (sheetOf bytes image pagefile) → v ≡ sheet-read.Accepted h → h .count ≤ 32
+pub few-rows : (bytes : List ℕ) (image pagefile : ℕ) (v : SheetRead) (h : Header) → v ≡ sheetRead (sheetOf bytes image pagefile) → v ≡ sheet-read.Accepted h → h .count ≤ 1000
 few-rows bytes image pagefile v h e f = go (sheetOf bytes image pagefile) refl (sym e ∙ f)
   where
-    go : (d : Read Sheet) → sheetOf bytes image pagefile ≡ d → sheetRead d ≡ sheet-read.Accepted h → h .count ≤ 32
+    go : (d : Read Sheet) → sheetOf bytes image pagefile ≡ d → sheetRead d ≡ sheet-read.Accepted h → h .count ≤ 1000
     go (got s at) g k =
         let n : length (s .runs) ≡ h .count = cc in
         omega (arith, accepted-laws bytes image pagefile s at g .most)
@@ -72,11 +75,19 @@ rows-front old rs h =
     rw (sets-eq (rowsFrom 0 rs) old 0 fits, ← n) (take-at (rowsFrom 0 rs) _ (length (rowsFrom 0 rs)) refl)
 
 -- numbers that are enough, whatever the sheet
-pub enough-numbers : (c : Case) → rowNumbers c ≤ 96
+pub enough-numbers : (c : Case) → rowNumbers c ≤ 3000
 enough-numbers c = go (checkOf c) refl
   where
-    go : (d : Read Sheet) → checkOf c ≡ d → numbersOf d ≤ 96
+    go : (d : Read Sheet) → checkOf c ≡ d → numbersOf d ≤ 3000
     go (got s at) e = omega (arith, accepted-laws (c .sheet) (length (c .image)) (length (c .pagefile)) s at e .most)
+    go (refused r) e = omega arith
+
+-- numbers that are enough for a sheet whose count says few runs
+pub enough-for-few : (c : Case) → fewRuns (editionFields (c .sheet) 0) ≡ true → rowNumbers c ≤ 96
+enough-for-few c h = go (checkOf c) refl
+  where
+    go : (d : Read Sheet) → checkOf c ≡ d → numbersOf d ≤ 96
+    go (got s at) e = omega (arith, few-runs (c .sheet) (length (c .image)) (length (c .pagefile)) s at e h)
     go (refused r) e = omega arith
 
 -- numbers that are enough for a sheet of at most 8 bytes: it has at most 2 runs

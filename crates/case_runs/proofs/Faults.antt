@@ -63,7 +63,7 @@ fields-own s at = then-own s _ (edition s at) (edition-own s at) (λ n a. then-o
 
 header-own : (s : List ℕ) (at : ℕ) → OwnFault (header s at)
 unfolding header
-header-own s at = then-own s _ (editionFields s at) (fields-own s at) (λ f a. need-own s _ (within 1 32 (f .second)) OutOfLimits a (omega arith) (λ x b. tt))
+header-own s at = then-own s _ (editionFields s at) (fields-own s at) (λ f a. need-own s _ (within 1 1000 (f .second)) OutOfLimits a (omega arith) (λ x b. tt))
 
 run-own : (least end : ℕ) (s : List ℕ) (at : ℕ) → OwnFault (runFrom least end s at)
 unfolding runFrom

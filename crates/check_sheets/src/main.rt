@@ -1,10 +1,13 @@
 // Checks sheets from standard input, for the differential test. A record is the image's length, the pagefile's
-// length and the sheet's length, 8 bytes each and little-endian, then the sheet, of at most 1,024 bytes.
+// length and the sheet's length, 8 bytes each and little-endian, then the sheet, of at most 12,009 bytes.
 // A refused sheet prints its number; an accepted one 0, the directory page, the number of runs, and each run's first frame and pages.
 use libc::STDIN_FILENO;
 use libc::STDOUT_FILENO;
 use sheet::Header;
 use sheet::SheetRead;
+
+// Edition, directory page, count and 1,000 runs take no more.
+const MOST_BYTES: u64 = 12009;
 
 fn main() {
     // No input has 2^64 - 1 records.
@@ -20,11 +23,11 @@ fn check_next() -> bool {
         return false;
     }
     let length = words::word_at(&lengths, 16);
-    if 1024 < length {
+    if MOST_BYTES < length {
         return false;
     }
     let n = length as usize;
-    let mut bytes = [0u8; 1024];
+    let mut bytes = [0u8; 12009];
     check_one(
         words::word_at(&lengths, 0),
         words::word_at(&lengths, 8),
@@ -36,31 +39,32 @@ fn check_one(image: u64, pagefile: u64, bytes: &mut [u8]) -> bool {
     if io::read_full(STDIN_FILENO, bytes) < bytes.len() {
         return false;
     }
-    let mut rows = [0u64; 96];
+    let mut rows = [0u64; 3000];
     match sheet::read_sheet(bytes, image, pagefile, &mut rows) {
         SheetRead::Refused(refusal) => {
             io::print_decimal(STDOUT_FILENO, refusal.number());
         }
         SheetRead::Accepted(header) => {
-            print_case(header, rows);
+            print_case(header, &rows);
         }
     }
     io::write_all(STDOUT_FILENO, b"\n")
 }
 
-fn print_case(header: Header, rows: [u64; 96]) {
+fn print_case(header: Header, rows: &[u64; 3000]) {
     io::print_decimal(STDOUT_FILENO, 0);
     let directory = header.space.directory;
     print_next(directory.number());
     let count = header.count;
     print_next(count as u64);
     let mut i = 0;
-    while i < 32 {
-        if i < count {
-            let first = rows[3 * i];
-            print_next(first);
-            print_next(std::num::wrapping_sub_u64(rows[3 * i + 1], first));
+    while i < 1000 {
+        if count <= i {
+            return;
         }
+        let first = rows[3 * i];
+        print_next(first);
+        print_next(std::num::wrapping_sub_u64(rows[3 * i + 1], first));
         i += 1;
     }
 }

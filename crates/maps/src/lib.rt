@@ -38,7 +38,11 @@ pub fn map_range(
 ) -> Written
     ensures { λ r. ⌜ MapAnswer (caseOf (now (sheet .entry)) (now (image .entry)) (now (pagefile .entry))) start pages (now (out .entry)) r (now (out .exit)) ⌝ }
 {
-    let mut rows = [0u64; 96];
+    if sheet::has_few_runs(sheet) {
+        let mut few = [0u64; 96];
+        return map_over(sheet, image, pagefile, &mut few, start, pages, out);
+    }
+    let mut rows = [0u64; 3000];
     map_over(sheet, image, pagefile, &mut rows, start, pages, out)
 }
 

@@ -41,7 +41,11 @@ pub fn process_list(
 ) -> Written
     ensures { λ r. ⌜ ListAnswer (caseOf (now (sheet .entry)) (now (image .entry)) (now (pagefile .entry))) head (now (out .entry)) r (now (out .exit)) ⌝ }
 {
-    let mut rows = [0u64; 96];
+    if sheet::has_few_runs(sheet) {
+        let mut few = [0u64; 96];
+        return list_over(sheet, image, pagefile, &mut few, head, out);
+    }
+    let mut rows = [0u64; 3000];
     list_over(sheet, image, pagefile, &mut rows, head, out)
 }
 

@@ -23,7 +23,11 @@ const BIT_48: u64 = 0x1000000000000;
 pub fn processor_block(sheet: &[u8], image: &[u8], pagefile: &[u8], from: u64) -> Answer
     ensures { λ r. ⌜ BlockAnswer (caseOf (now (sheet .entry)) (now (image .entry)) (now (pagefile .entry))) from r ⌝ }
 {
-    let mut rows = [0u64; 96];
+    if sheet::has_few_runs(sheet) {
+        let mut few = [0u64; 96];
+        return search_over(sheet, image, pagefile, &mut few, from);
+    }
+    let mut rows = [0u64; 3000];
     search_over(sheet, image, pagefile, &mut rows, from)
 }
 

@@ -42,7 +42,11 @@ pub fn read_bytes(
 ) -> BytesRead
     ensures { λ r. ⌜ ReadAnswer (caseOf (now (sheet .entry)) (now (image .entry)) (now (pagefile .entry))) address n (now (out .entry)) r (now (out .exit)) ⌝ }
 {
-    let mut rows = [0u64; 96];
+    if sheet::has_few_runs(sheet) {
+        let mut few = [0u64; 96];
+        return read_over(sheet, image, pagefile, &mut few, address, n, out);
+    }
+    let mut rows = [0u64; 3000];
     read_over(sheet, image, pagefile, &mut rows, address, n, out)
 }
 

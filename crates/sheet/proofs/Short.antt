@@ -1,19 +1,23 @@
--- A sheet of few bytes has few runs: three numbers before the runs and two a run take a byte each at least.
-use mathlib.Core.Path.{_≡_}
+-- How many runs a sheet has: few if it has few bytes, for three numbers before the runs and two a run take a byte each at least; few if its count says so.
+use mathlib.Core.Path.{_≡_, sym, ap, _∙_}
 use mathlib.Core.List.{List, [], _∷_}
+use mathlib.Core.Bool.{true}
 use Prim.Native.Nat.{ℕ, zero, suc, _+_, _*_, _^_, _≤_}
 use native.Mathlib.Omega.{arith}
 use lib.Dec.{leb, ltb}
 use lib.ListN.{length}
+use borrow.Author.Tests.{leb-true}
 use Rattle.base.specs.Notation.{within}
+use Rattle.base.specs.declared.Refusal.{Refusal}
 use Rattle.base.specs.declared.Refusal.the-variants.{OutOfLimits, BadRun}
-use Rattle.varint.specs.Reader.{got}
+use Rattle.varint.specs.Reader.{got, refused}
 use Rattle.varint.specs.Groups.{number}
-use Rattle.varint.specs.Edition.{editionFields}
+use Rattle.varint.specs.Edition.{EditionFields, editionFields}
 use Rattle.varint.proofs.Reader.{came, held, returned}
 use Rattle.varint.proofs.Onward.{field-onward, fields-onward}
 use Rattle.entry.specs.Pages.{frame}
 use Rattle.sheet.specs.Sheet.{spaceAt, header, runFrom, runsFrom, endOf, Sheet, sheetOf}
+use Rattle.sheet.specs.Inner.{fewRuns}
 use Rattle.sheet.specs.declared.Header.{Header}
 use Rattle.sheet.specs.declared.Run.{Run}
 use Rattle.sheet.proofs.AcceptedCase.{Runs, runs-chain, Parts, sheet-parts}
@@ -23,7 +27,7 @@ unfolding header
 header-onward s h next e =
     let c = came s _ (editionFields s 0) h next e in
     let f = c .value in
-    let t = held s _ (within 1 32 (f .second)) OutOfLimits (c .at) h next (c .rest) in
+    let t = held s _ (within 1 1000 (f .second)) OutOfLimits (c .at) h next (c .rest) in
     let same = returned (record { space = spaceAt (f .first); count = f .second }) h (c .at) next (t .1) .1 in
     omega (arith, fields-onward s 0 f (c .at) (c .field))
 
@@ -52,3 +56,26 @@ few-bytes s image pagefile t next e =
     let p = sheet-parts s image pagefile t next e in
     let many : length (t .runs) ≡ p .fields .count = runs-chain (p .fields .count) 0 0 s (p .at) (t .runs) (length s) (p .runs-read) .many in
     omega (arith, many, header-onward s (p .fields) (p .at) (p .header-read), runs-onward (p .fields .count) 0 0 s (p .at) (t .runs) (length s) (p .runs-read))
+
+few-header : (s : List ℕ) (h : Header) (next : ℕ) → header s 0 ≡ got h next → fewRuns (editionFields s 0) ≡ true → h .count ≤ 32
+unfolding header
+few-header s h next e f =
+    let c = came s _ (editionFields s 0) h next e in
+    let t = held s _ (within 1 1000 (c .value .second)) OutOfLimits (c .at) h next (c .rest) in
+    let same = returned (record { space = spaceAt (c .value .first); count = c .value .second }) h (c .at) next (t .1) .0 in
+    let n : c .value .second ≡ h .count = ap (λ (x : Header). x .count) same in
+    let few : leb (c .value .second) 32 ≡ true = sym (ap fewRuns (c .field)) ∙ f in
+    omega (arith, n, leb-true (c .value .second) 32 few)
+
+pub few-runs : (s : List ℕ) (image pagefile : ℕ) (t : Sheet) (next : ℕ) → sheetOf s image pagefile ≡ got t next → fewRuns (editionFields s 0) ≡ true → length (t .runs) ≤ 32
+few-runs s image pagefile t next e f =
+    let p = sheet-parts s image pagefile t next e in
+    let many : length (t .runs) ≡ p .fields .count = runs-chain (p .fields .count) 0 0 s (p .at) (t .runs) (length s) (p .runs-read) .many in
+    omega (arith, many, few-header s (p .fields) (p .at) (p .header-read) f)
+
+-- what `has_few_runs` answers where the fields were read, and where they were not
+pub few-by-count : (s : List ℕ) (f : EditionFields) (next : ℕ) → editionFields s 0 ≡ got f next → leb (f .second) 32 ≡ fewRuns (editionFields s 0)
+few-by-count s f next e = sym (ap fewRuns e)
+
+pub none-by-count : (s : List ℕ) (r : Refusal) → editionFields s 0 ≡ refused r → true ≡ fewRuns (editionFields s 0)
+none-by-count s r e = sym (ap fewRuns e)

@@ -2,13 +2,14 @@
 use mathlib.Core.Path.{_≡_}
 use mathlib.Core.List.{List}
 use Prim.Native.Nat.{ℕ, _+_, _-_, _*_, _%_}
-use mathlib.Core.Bool.{not}
-use lib.Dec.{eqb}
+use mathlib.Core.Bool.{Bool, true, not}
+use lib.Dec.{eqb, leb}
 use lib.ListN.{set}
 use lib.Seq.{sets}
 use Rattle.base.specs.Notation.{if_then_else_, within}
 use Rattle.base.specs.declared.Refusal.the-variants.{OutOfLimits, ImageLengthDiffers, PagefileNotWholePages}
 use Rattle.varint.specs.Reader.{Read, got, refused}
+use Rattle.varint.specs.Edition.{EditionFields}
 use Rattle.sheet.specs.Sheet.{spaceAt, endOf, runPages}
 use Rattle.sheet.specs.Call.{rowsFrom}
 use Rattle.sheet.specs.declared.Header.{Header}
@@ -26,10 +27,15 @@ abbrev pub headerRead : Read Header → HeaderRead
 headerRead (got h next) = header-read.Fields h next
 headerRead (refused r) = header-read.Refused r
 
+-- at most 32 runs by the fields before the runs; where they cannot be read there are none
+abbrev pub fewRuns : Read EditionFields → Bool
+fewRuns (got f next) = leb (f .second) 32
+fewRuns (refused r) = true
+
 -- the fields before the runs, with a number for the count
 abbrev pub fieldsRead : ℕ → ℕ → ℕ → HeaderRead
 fieldsRead directory count next =
-    if within 1 32 count then header-read.Fields (record { space = spaceAt directory; count = count }) next else header-read.Refused OutOfLimits
+    if within 1 1000 count then header-read.Fields (record { space = spaceAt directory; count = count }) next else header-read.Refused OutOfLimits
 
 abbrev pub runRead : Read Run → RunRead
 runRead (got r next) = run-read.Taken r next
