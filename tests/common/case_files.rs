@@ -3,6 +3,7 @@
 use super::groups::{in_groups, sheet_of, shortest};
 use super::memory::{Memory, PAGE_BYTES};
 use super::random::Xorshift;
+use crate::second::sheet::MOST_RUNS;
 use crate::second::walk::Files;
 
 /// A sheet, an image and a pagefile.
@@ -42,9 +43,18 @@ pub fn other_sheet(files: &mut CaseFiles, memory: &mut Memory, mut fields: Vec<u
         4 => fields[last_run] = fields[last_run].saturating_sub(1),
         5 => fields[0] = memory.random.below(3),
         6 => fields[1] |= 1 << (36 + memory.random.below(6)),
-        _ => fields[2] = memory.random.below(35),
+        _ => fields[2] = other_run_count(&mut memory.random),
     }
     files.sheet = sheet_of(&fields);
+}
+
+/// A run count within the limits, at their edges or past them.
+fn other_run_count(random: &mut Xorshift) -> u64 {
+    match random.below(3) {
+        0 => random.below(35),
+        1 => 125 + random.below(6),
+        _ => MOST_RUNS - 2 + random.below(6),
+    }
 }
 
 /// Breaks the sheet's bytes or one of the two lengths, sometimes several at once.

@@ -5,7 +5,7 @@ use super::random::Xorshift;
 pub const PAGE_BYTES: usize = 4096;
 pub const ENTRIES_IN_TABLE: u64 = 512;
 pub const LAST_LEVEL: u32 = 4;
-const FRAME_LIMIT: u64 = 1 << 36;
+pub const FRAME_LIMIT: u64 = 1 << 36;
 
 pub const VALID: u64 = 1;
 const LARGE: u64 = 1 << 7;
@@ -45,6 +45,8 @@ pub struct Memory {
     /// The image offset of each entry put into a table.
     pub put: Vec<usize>,
     unused: Vec<usize>,
+    /// Whether a page that is in use as something may become a table.
+    tables_anywhere: bool,
     /// Few indices for each upper level, so that addresses share tables.
     indices: [[u64; 2]; 3],
     last_page: u64,
@@ -68,6 +70,7 @@ impl Memory {
             directory: random.below(pages as u64) as usize,
             put: Vec::new(),
             unused: (0..pages).collect(),
+            tables_anywhere: true,
             indices: [
                 [random.below(index), index + random.below(index)],
                 [random.below(2 * index), random.below(2 * index)],
@@ -79,6 +82,13 @@ impl Memory {
         memory.unused.swap_remove(memory.directory);
         memory.clear_page(memory.directory);
         memory
+    }
+
+    /// From now on each table has one of these pages for itself, the top one too.
+    pub fn keep_tables_in(&mut self, pages: Vec<usize>) {
+        self.unused = pages;
+        self.tables_anywhere = false;
+        self.directory = self.take_table();
     }
 
     pub fn sheet_fields(&self) -> Vec<u64> {
@@ -367,7 +377,7 @@ impl Memory {
 
     /// A page to use as table: mostly an empty one, else one that is in use as something.
     pub fn take_table(&mut self) -> usize {
-        if self.random.below(40) == 0 {
+        if self.tables_anywhere && self.random.below(40) == 0 {
             return self.any_page();
         }
         match self.take_unused() {
@@ -543,26 +553,35 @@ fn random_bytes(random: &mut Xorshift, length: usize) -> Vec<u8> {
 fn scattered_frames(random: &mut Xorshift) -> Vec<u64> {
     let runs = 1 + random.below(32);
     let least = runs.max(4);
-    let pages = least + random.below(41 - least);
+    let mut spare = least + random.below(41 - least) - runs;
+    let mut lengths = Vec::new();
+    for run in 0..runs {
+        let more = match run + 1 == runs {
+            true => spare,
+            false => random.below(spare.min(8) + 1),
+        };
+        spare -= more;
+        lengths.push(1 + more);
+    }
+    let to_top = random.below(4) == 0;
+    frames_in_runs(&lengths, to_top, random)
+}
+
+/// The frames of runs of these lengths, ascending; the last run ends at the top or anywhere.
+pub fn frames_in_runs(lengths: &[u64], to_top: bool, random: &mut Xorshift) -> Vec<u64> {
     let widest = 1 + random.below(36);
     // Each page needs a frame, and each run but the first a gap.
-    let mut room = FRAME_LIMIT - pages - (runs - 1);
+    let mut room = FRAME_LIMIT - lengths.iter().sum::<u64>() - (lengths.len() as u64 - 1);
     let mut frames = Vec::new();
     let mut next = 0;
-    for run in 0..runs {
-        let last = run + 1 == runs;
-        let gap = match random.below(4) {
-            0 if last => room,
-            _ => random.up_to_bits(widest).min(room),
+    for (run, length) in lengths.iter().enumerate() {
+        let last = run + 1 == lengths.len();
+        let gap = match last && to_top {
+            true => room,
+            false => random.up_to_bits(widest).min(room),
         };
         room -= gap;
         next += gap + u64::from(run > 0);
-        let spare = pages - frames.len() as u64 - (runs - run);
-        let length = 1 + if last {
-            spare
-        } else {
-            random.below(spare.min(8) + 1)
-        };
         frames.extend(next..next + length);
         next += length;
     }

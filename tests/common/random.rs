@@ -5,6 +5,12 @@ pub struct Xorshift {
 }
 
 impl Xorshift {
+    pub fn seeded(seed: u64) -> Self {
+        // A state of 0 would stay 0.
+        let state = seed.wrapping_add(1).wrapping_mul(0x9E37_79B9_7F4A_7C15) | 1;
+        Xorshift { state }
+    }
+
     pub fn next(&mut self) -> u64 {
         self.state ^= self.state << 13;
         self.state ^= self.state >> 7;

@@ -38,15 +38,20 @@ impl Tally {
 
     /// A reason to fail for each of these numbers that came up too rarely, and for numbers that cannot come up.
     pub fn reasons(&self, wanted: &[u64]) -> Vec<String> {
+        self.reasons_below(LEAST_TIMES, wanted)
+    }
+
+    /// The same with so many times in place of the usual ones.
+    pub fn reasons_below(&self, least: u64, wanted: &[u64]) -> Vec<String> {
         let unlisted = (self.unlisted > 0)
             .then(|| format!("{}: {} numbers are not listed", self.what, self.unlisted));
         let times = self.numbers.iter().zip(&self.times);
         let rare = times
-            .filter(|(number, times)| wanted.contains(number) && **times < LEAST_TIMES)
+            .filter(|(number, times)| wanted.contains(number) && **times < least)
             .map(|(number, times)| {
                 format!(
                     "{}: {} came up {} times, wanted {}",
-                    self.what, number, times, LEAST_TIMES
+                    self.what, number, times, least
                 )
             });
         unlisted.into_iter().chain(rare).collect()

@@ -1,6 +1,7 @@
 //! Images with processor blocks in them, and with what is nearly one.
 
 use crate::common::case_files::CaseFiles;
+use crate::common::many_runs::Edges;
 use crate::common::memory::{canonical, Home, Memory, EDGE_PAGES, LAST_LEVEL, PAGE_BYTES};
 use crate::common::random::Xorshift;
 
@@ -74,7 +75,13 @@ fn lay_block(memory: &mut Memory) -> usize {
         Flaw::Delta => [0, 0x178, 0x188, 0x181, 0x100][memory.random.below(5) as usize],
         _ => SECOND_PAST_SELF,
     };
-    let own = page + place;
+    put_block(memory, offset, page + place, past, directory);
+    memory.directory = sheet_directory;
+    offset
+}
+
+/// Puts the three words of a block at an image offset, as far as they lie in the image.
+fn put_block(memory: &mut Memory, offset: usize, own: u64, past: u64, directory: u64) {
     let words = [
         (SELF, own),
         (SECOND, own.wrapping_add(past)),
@@ -85,8 +92,30 @@ fn lay_block(memory: &mut Memory) -> usize {
             memory.put_word(offset + at, word);
         }
     }
-    memory.directory = sheet_directory;
-    offset
+}
+
+/// Lays blocks into the first and the last page of a run, each behind one whose own address is in the gap beside the
+/// run; the image offsets of the two.
+pub fn lay_blocks_at_edges(memory: &mut Memory, edges: &Edges) -> [usize; 2] {
+    let [before, first, last, after] = edges.pages;
+    let [first_page, last_page] = edges.image_pages;
+    // A run of one page has all four.
+    let quarters = [
+        (before, first_page),
+        (first, first_page),
+        (after, last_page),
+        (last, last_page),
+    ];
+    let mut quarter = 0;
+    let [_, at_first, _, at_last] = quarters.map(|(page, image_page)| {
+        let place = quarter + 8 * memory.random.below((LAST_PLACE - 0xC00) / 8 + 1);
+        let offset = image_page * PAGE_BYTES + place as usize;
+        let directory = directory_word(memory);
+        put_block(memory, offset, page + place, SECOND_PAST_SELF, directory);
+        quarter += 0x400;
+        offset
+    });
+    [at_first, at_last]
 }
 
 /// A block's place in its page, often the first or the last that is allowed.

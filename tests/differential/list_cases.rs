@@ -20,10 +20,7 @@ const LONG_LIST_EVERY: u64 = 40;
 
 /// Hands so many questions to `take`, the same ones in the same order for the same seed.
 pub fn each_question(seed: u64, how_many: u64, take: &mut dyn FnMut(&CaseFiles, &Question)) {
-    // A state of 0 would stay 0.
-    let mut random = Xorshift {
-        state: seed.wrapping_add(1).wrapping_mul(0x9E37_79B9_7F4A_7C15) | 1,
-    };
+    let mut random = Xorshift::seeded(seed);
     let mut questions = Questions {
         take,
         left: how_many,

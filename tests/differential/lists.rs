@@ -6,6 +6,7 @@ mod common {
     pub mod case_files;
     pub mod codes;
     pub mod groups;
+    pub mod many_runs;
     pub mod memory;
     pub mod print;
     pub mod random;
@@ -21,6 +22,7 @@ mod exports_lists;
 mod exports_map;
 mod links;
 mod list_cases;
+mod lists_at_edges;
 mod long_list;
 // Each test uses its own part of the second reader.
 #[allow(dead_code)]
@@ -37,9 +39,11 @@ mod second {
 use common::arguments;
 use common::case_files::CaseFiles;
 use common::codes::{CASE_REFUSALS, NOT_CANONICAL, PAGE_REFUSALS};
+use common::many_runs::ByRuns;
 use common::print::{hex, with_commas};
 use common::tally::{print_table, Tally};
 use list_cases::{each_question, p11_files, Question, P11_HEAD};
+use lists_at_edges::each_question_about_runs;
 use second::lists::{process_list, processor_block};
 use second::slip::{Slip, LIST_SLIPS};
 use second::walk::Files;
@@ -68,9 +72,10 @@ const GUARD: usize = 8;
 fn main() -> ExitCode {
     arguments::run("lists", 50_000, LIST_SLIPS, |arguments| {
         let mut comparison = Comparison::new(arguments.slip);
-        each_question(arguments.seed, arguments.cases, &mut |files, question| {
-            comparison.compare(files, question)
-        });
+        let mut compare =
+            |files: &CaseFiles, question: &Question| comparison.compare(files, question);
+        each_question(arguments.seed, arguments.cases, &mut compare);
+        each_question_about_runs(arguments.seed, &mut compare);
         report(&comparison)
     })
 }
@@ -81,6 +86,8 @@ struct Comparison {
     cases: u64,
     blocks: Tally,
     lists: Tally,
+    blocks_by_runs: ByRuns,
+    lists_by_runs: ByRuns,
     /// The lists written, by their length in few steps.
     lengths: Tally,
     differing: u64,
@@ -95,6 +102,8 @@ impl Comparison {
             cases: 0,
             blocks: Tally::new("block search", block_numbers()),
             lists: Tally::new("list", list_numbers()),
+            blocks_by_runs: ByRuns::new("block search", block_numbers()),
+            lists_by_runs: ByRuns::new("list", list_numbers()),
             lengths: Tally::new("lists written", LENGTHS.to_vec()),
             differing: 0,
             shown: Vec::new(),
@@ -122,6 +131,7 @@ impl Comparison {
         let theirs = exports_lists::processor_block(files.sheet, files.image, files.pagefile, from);
         let ours = processor_block(files, from, self.slip);
         self.blocks.count(ours.number);
+        self.blocks_by_runs.count(files.sheet, ours.number);
         let theirs = [theirs.number, theirs.offset, theirs.entries];
         let ours = [ours.number, ours.offset, ours.entries];
         (theirs != ours).then(|| {
@@ -148,6 +158,7 @@ impl Comparison {
         );
         let ours = process_list(files, head, &mut our_buffer[..room], self.slip);
         self.lists.count(ours.number);
+        self.lists_by_runs.count(files.sheet, ours.number);
         if ours.number == 0 {
             self.lengths.count(length_class(ours.length));
         }
@@ -202,6 +213,8 @@ fn case_text(case: u64, files: &CaseFiles, question: &Question) -> String {
 fn report(comparison: &Comparison) -> bool {
     print_table(&[&comparison.blocks, &comparison.lists]);
     print_table(&[&comparison.lengths]);
+    comparison.blocks_by_runs.print();
+    comparison.lists_by_runs.print();
     comparison
         .shown
         .iter()
@@ -213,6 +226,8 @@ fn report(comparison: &Comparison) -> bool {
     reasons.extend(comparison.blocks.reasons(&block_numbers()));
     reasons.extend(comparison.lists.reasons(&list_numbers()));
     reasons.extend(comparison.lengths.reasons(LENGTHS));
+    reasons.extend(comparison.blocks_by_runs.reasons(&[1]));
+    reasons.extend(comparison.lists_by_runs.reasons(&[0, 23]));
     judge_p11(&mut reasons);
     reasons.iter().for_each(|reason| println!("{}", reason));
     if reasons.is_empty() {

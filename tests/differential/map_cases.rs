@@ -2,6 +2,7 @@
 
 use crate::common::case_files::{damage_files, damage_tables, other_sheet, CaseFiles};
 use crate::common::groups::sheet_of;
+use crate::common::many_runs::{each_with_many_runs, EDGES};
 use crate::common::memory::{canonical, Memory};
 use crate::common::random::Xorshift;
 use crate::common::small_case::small_case;
@@ -22,10 +23,7 @@ pub struct Question {
 
 /// Hands so many questions to `take`, the same ones in the same order for the same seed.
 pub fn each_question(seed: u64, how_many: u64, take: &mut dyn FnMut(&CaseFiles, &Question)) {
-    // A state of 0 would stay 0.
-    let mut random = Xorshift {
-        state: seed.wrapping_add(1).wrapping_mul(0x9E37_79B9_7F4A_7C15) | 1,
-    };
+    let mut random = Xorshift::seeded(seed);
     let mut questions = Questions {
         take,
         asked: 0,
@@ -39,6 +37,36 @@ pub fn each_question(seed: u64, how_many: u64, take: &mut dyn FnMut(&CaseFiles, 
         ask_about(&mut memory, &long, &short, &mut questions);
         random = memory.random;
         made += 1;
+    }
+}
+
+/// Hands questions about the edges of every run to `take`, in memory of more than 32 runs, then with damaged sheets.
+pub fn each_question_about_runs(seed: u64, take: &mut dyn FnMut(&CaseFiles, &Question)) {
+    each_with_many_runs(seed, &mut |many| {
+        let mut files = many.take_files();
+        let memory = &mut many.memory;
+        let ranges: Vec<Range> = many.runs.iter().map(|run| edges(run.pages[0], 1)).collect();
+        let mut ask = |files: &CaseFiles, range: Range, random: &mut Xorshift| {
+            take(files, &question(files, range, |length, _| length, random))
+        };
+        for range in &ranges {
+            ask(&files, *range, &mut memory.random);
+        }
+        let all = edges(ranges[0].start, ranges.len());
+        ask(&files, all, &mut memory.random);
+        for range in ranges.iter().step_by(ranges.len() / 8) {
+            let fields = memory.sheet_fields();
+            other_sheet(&mut files, memory, fields);
+            ask(&files, *range, &mut memory.random);
+        }
+    });
+}
+
+/// The pages of the edges of so many runs.
+fn edges(start: u64, runs: usize) -> Range {
+    Range {
+        start,
+        pages: (runs * EDGES) as u64,
     }
 }
 
@@ -124,19 +152,28 @@ impl Questions<'_> {
         }
         self.left -= 1;
         self.asked += 1;
-        let Range { start, pages } = range;
-        let bytes = map_bytes(files.lent(), start, pages, Slip::None).unwrap_or_default();
-        let written = read_map(&bytes).ok();
-        let question = Question {
-            start,
-            pages,
-            room: room_for(bytes.len(), random),
-            addresses: (0..4).map(|_| address_about(range, random)).collect(),
-            others: (0..3)
-                .map(|_| other_map(written.as_ref(), random))
-                .collect(),
-        };
-        (self.take)(files, &question);
+        (self.take)(files, &question(files, range, room_for, random));
+    }
+}
+
+/// A question about a range; its room goes by the length of the map.
+fn question(
+    files: &CaseFiles,
+    range: Range,
+    room: fn(usize, &mut Xorshift) -> usize,
+    random: &mut Xorshift,
+) -> Question {
+    let Range { start, pages } = range;
+    let bytes = map_bytes(files.lent(), start, pages, Slip::None).unwrap_or_default();
+    let written = read_map(&bytes).ok();
+    Question {
+        start,
+        pages,
+        room: room(bytes.len(), random),
+        addresses: (0..4).map(|_| address_about(range, random)).collect(),
+        others: (0..3)
+            .map(|_| other_map(written.as_ref(), random))
+            .collect(),
     }
 }
 

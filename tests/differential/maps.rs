@@ -6,6 +6,7 @@ mod common {
     pub mod case_files;
     pub mod codes;
     pub mod groups;
+    pub mod many_runs;
     pub mod memory;
     pub mod print;
     pub mod random;
@@ -31,9 +32,10 @@ mod second {
 use common::arguments;
 use common::case_files::CaseFiles;
 use common::codes::{CASE_REFUSALS, EXTENT_CODES, NOT_CANONICAL};
+use common::many_runs::ByRuns;
 use common::print::{hex, with_commas};
 use common::tally::{print_table, Tally};
-use map_cases::{each_question, p2_files, Question, P2};
+use map_cases::{each_question, each_question_about_runs, p2_files, Question, P2};
 use other_maps::each_short_map;
 use second::map::{lookup, map, read_map};
 use second::slip::{Slip, MAP_SLIPS};
@@ -70,9 +72,10 @@ fn main() -> ExitCode {
     arguments::run("maps", 50_000, MAP_SLIPS, |arguments| {
         let mut comparison = Comparison::new(arguments.slip);
         each_short_map(&mut |map| comparison.compare_short(map));
-        each_question(arguments.seed, arguments.cases, &mut |files, question| {
-            comparison.compare(files, question)
-        });
+        let mut compare =
+            |files: &CaseFiles, question: &Question| comparison.compare(files, question);
+        each_question(arguments.seed, arguments.cases, &mut compare);
+        each_question_about_runs(arguments.seed, &mut compare);
         report(&comparison)
     })
 }
@@ -83,6 +86,7 @@ struct Comparison {
     cases: u64,
     maps: Tally,
     codes: Tally,
+    codes_by_runs: ByRuns,
     lookups: Tally,
     other_lookups: Tally,
     short_lookups: Tally,
@@ -98,6 +102,7 @@ impl Comparison {
             cases: 0,
             maps: Tally::new("map call", map_numbers()),
             codes: Tally::new("maps with code", EXTENT_CODES.to_vec()),
+            codes_by_runs: ByRuns::new("maps with code", EXTENT_CODES.to_vec()),
             lookups: Tally::new("lookup", lookup_numbers()),
             other_lookups: Tally::new("other maps", lookup_numbers()),
             short_lookups: Tally::new("short maps", lookup_numbers()),
@@ -112,7 +117,7 @@ impl Comparison {
         let mut differences = Vec::new();
         let lengths = self.map(files.lent(), question, &mut differences);
         if let Some(lengths) = lengths {
-            self.count_codes(lengths[1]);
+            self.count_codes(files, lengths[1]);
             for address in &question.addresses {
                 self.look_up(files.lent(), question, lengths, *address, &mut differences);
             }
@@ -177,11 +182,14 @@ impl Comparison {
     }
 
     /// Counts each code once for each map that has it.
-    fn count_codes(&mut self, length: usize) {
+    fn count_codes(&mut self, files: &CaseFiles, length: usize) {
         // Only a slip writes a map that cannot be read.
         let map = read_map(&self.buffers[1][..length]).unwrap_or_default();
         let met: HashSet<u64> = map.extents.iter().map(|extent| extent.code).collect();
-        met.into_iter().for_each(|code| self.codes.count(code));
+        for code in met {
+            self.codes.count(code);
+            self.codes_by_runs.count(&files.sheet, code);
+        }
     }
 
     /// Looks an address up in both maps, and asks the second walk for it if it is in the range.
@@ -286,6 +294,7 @@ fn report(comparison: &Comparison) -> bool {
         &comparison.short_lookups,
     ];
     print_table(&tallies);
+    comparison.codes_by_runs.print();
     comparison
         .shown
         .iter()
@@ -296,6 +305,7 @@ fn report(comparison: &Comparison) -> bool {
     }
     reasons.extend(comparison.maps.reasons(&map_numbers()));
     reasons.extend(comparison.codes.reasons(EXTENT_CODES));
+    reasons.extend(comparison.codes_by_runs.reasons(&[1, 23]));
     reasons.extend(comparison.lookups.reasons(EXTENT_CODES));
     reasons.extend(comparison.lookups.reasons(OF_ADDRESS));
     reasons.extend(comparison.other_lookups.reasons(&lookup_numbers()));

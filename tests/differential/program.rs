@@ -293,7 +293,7 @@ fn bad_sheets(runs: &mut Runs) -> io::Result<()> {
         (sheet[..5].to_vec(), &case.image, &case.pagefile, 10, "the last length is missing"),
         (vec![0x80, 0x00], &case.image, &case.pagefile, 11, "P10: not the shortest form"),
         (sheet_of(&[2, 0x100, 1, 0x100, 12]), &case.image, &case.pagefile, 12, "edition 2"),
-        (sheet_of(&[1, 0x100, 33]), &case.image, &case.pagefile, 12, "33 runs"),
+        (sheet_of(&[1, 0x100, 1001]), &case.image, &case.pagefile, 12, "1,001 runs"),
         (sheet_of(&[1, 0x100, 1, 0x100, 0]), &case.image, &case.pagefile, 13, "length 0"),
         ([&sheet[..], &[0]].concat(), &case.image, &case.pagefile, 14, "a byte behind the last field"),
         (sheet.clone(), short_image, &case.pagefile, 15, "the image has a page less than the runs"),

@@ -3,7 +3,7 @@
 use crate::common::groups::{in_groups, sheet_of, shortest};
 use crate::common::random::Xorshift;
 use crate::second::number::NUMBER_LIMIT;
-use crate::second::sheet::run_bytes_read;
+use crate::second::sheet::{run_bytes_read, MOST_RUNS};
 
 /// One question to a sheet reader.
 pub struct Record<'a> {
@@ -12,8 +12,14 @@ pub struct Record<'a> {
     pub pagefile_length: u64,
 }
 
-/// The longest sheet that the program under test takes.
-const LONGEST_SHEET: usize = 1024;
+/// The longest sheet that the program under test takes: edition, directory page, count and 1,000 runs.
+const LONGEST_SHEET: usize = 1 + 6 + 2 + 12 * MOST_RUNS as usize;
+
+/// Run counts that are accepted: the edges, those where the count or the room for the runs grows, and one between.
+pub const ACCEPTED_RUN_COUNTS: &[u64] = &[1, 2, 31, 32, 33, 127, 128, 210, 999, MOST_RUNS];
+
+/// Run counts that are not, the last in three bytes.
+const REFUSED_RUN_COUNTS: [u64; 4] = [0, MOST_RUNS + 1, (1 << 14) - 1, 1 << 14];
 
 const PAGEFILE_LENGTHS: [u64; 5] = [0, 4096, 4095, 1, 8192];
 
@@ -46,8 +52,11 @@ pub fn each_record(longer: bool, take: &mut dyn FnMut(&Record)) {
     gap_and_length_pairs(&mut records);
     ends_around_the_top(&mut records);
     run_counts(&mut records);
+    run_count_forms(&mut records);
+    gap_and_length_sizes(&mut records);
     trailing_bytes(&mut records);
     truncations(&mut records);
+    damaged_long_sheets(&mut records);
     file_lengths(&mut records);
     changed_sheets(&mut records, 40_000);
 }
@@ -144,7 +153,7 @@ fn forms_in_every_field(records: &mut Records) {
 
 /// Good and bad forms of numbers; `usual` is the field's own number.
 fn number_forms(usual: u64) -> Vec<Vec<u8>> {
-    let small = [0, 1, 2, 3, 31, 32, 33, 127, 128];
+    let small = [0, 1, 2, 3, 31, 32, 33, 127, 128, 1000, 1001, 1 << 14];
     let large = [
         (1 << 35) - 1,
         1 << 35,
@@ -188,21 +197,20 @@ fn gap_and_length_pairs(records: &mut Records) {
     for start in starts {
         for gap in &forms {
             for length in &forms {
-                let sheet = [&sheet_of(start)[..], gap, length].concat();
-                records.add_with_all_lengths(&sheet);
-                add_with_one_more_run(records, &sheet);
+                let runs = [&sheet_of(&start[3..])[..], gap, length].concat();
+                add_with_one_more_run(records, start[2], &runs);
             }
         }
     }
 }
 
-/// The sheet with its run count raised by one, then with a good or a bad run as well.
-fn add_with_one_more_run(records: &mut Records, sheet: &[u8]) {
-    let mut raised = sheet.to_vec();
-    raised[2] += 1;
-    let runs: [&[u8]; 6] = [&[], &[1], &[1, 1], &[0, 1], &[1, 0], &[0x80, 0]];
-    for run in runs {
-        records.add_with_all_lengths(&[&raised[..], run].concat());
+/// The sheet with these runs, then with its run count raised by one, and with a good or a bad run as well.
+fn add_with_one_more_run(records: &mut Records, run_count: u64, runs: &[u8]) {
+    records.add_with_all_lengths(&[&sheet_of(&[1, 7, run_count])[..], runs].concat());
+    let more: [&[u8]; 6] = [&[], &[1], &[1, 1], &[0, 1], &[1, 0], &[0x80, 0]];
+    for run in more {
+        let header = sheet_of(&[1, 7, run_count + 1]);
+        records.add_with_all_lengths(&[&header[..], runs, run].concat());
     }
 }
 
@@ -215,7 +223,7 @@ fn ends_around_the_top(records: &mut Records) {
         NUMBER_LIMIT + 2,
         3 << 35,
     ];
-    for runs_before in [0, 1, 2, 31] {
+    for runs_before in [0, 1, 2, 31, 32, 127, MOST_RUNS - 2, MOST_RUNS - 1] {
         let end_before = 2 * runs_before;
         for end in ends {
             let room = end - end_before;
@@ -231,12 +239,9 @@ fn ends_around_the_top(records: &mut Records) {
                 room,
             ];
             for length in lengths.into_iter().filter(|length| *length <= room) {
-                let mut fields = vec![1, 0, runs_before + 1];
-                fields.extend(vec![1; 2 * runs_before as usize]);
-                fields.extend([room - length, length]);
-                let sheet = sheet_of(&fields);
-                records.add_with_all_lengths(&sheet);
-                add_with_one_more_run(records, &sheet);
+                let mut runs = vec![1; 2 * runs_before as usize];
+                runs.extend([room - length, length]);
+                add_with_one_more_run(records, runs_before + 1, &sheet_of(&runs));
             }
         }
     }
@@ -244,15 +249,72 @@ fn ends_around_the_top(records: &mut Records) {
 
 /// Run counts around the limits, with one run fewer, as many, and one more.
 fn run_counts(records: &mut Records) {
-    for count in [0_u64, 1, 2, 31, 32, 33, 34, 64, 127, 128] {
+    let counts = ACCEPTED_RUN_COUNTS.iter().chain(&REFUSED_RUN_COUNTS);
+    for count in counts.chain(&[34, 64]) {
         for runs in count.saturating_sub(1)..=count + 1 {
             for run in [[1, 1], [3, 1 << 20]] {
-                let mut fields = vec![1, 0x187, count];
-                (0..runs).for_each(|_| fields.extend(run));
-                records.add_with_all_lengths(&sheet_of(&fields));
+                let header = sheet_of(&[1, 0x187, *count]);
+                records.add_with_all_lengths(&cut([header, many(runs, &run)].concat()));
             }
         }
     }
+}
+
+/// Run counts in each number of bytes up to one too many, with the runs or without.
+fn run_count_forms(records: &mut Records) {
+    for count in ACCEPTED_RUN_COUNTS.iter().chain(&REFUSED_RUN_COUNTS) {
+        for groups in 1..=7 {
+            let header = [sheet_of(&[1, 0x187]), in_groups(*count, groups)].concat();
+            records.add_with_all_lengths(&header);
+            records.add_in_turn(&cut([header, many(*count, &[1, 1])].concat()));
+        }
+    }
+}
+
+/// So many runs alike.
+fn many(runs: u64, run: &[u64; 2]) -> Vec<u8> {
+    sheet_of(run).repeat(runs as usize)
+}
+
+/// As much of a sheet as the program under test takes.
+fn cut(mut sheet: Vec<u8>) -> Vec<u8> {
+    sheet.truncate(LONGEST_SHEET);
+    sheet
+}
+
+/// Gaps and lengths of every size: one of them among those of 1, and all alike, which often end past the top.
+fn gap_and_length_sizes(records: &mut Records) {
+    for count in ACCEPTED_RUN_COUNTS {
+        let room = NUMBER_LIMIT - (2 * count - 1);
+        for groups in 1..=6 {
+            let least = 1 << (7 * (groups - 1));
+            let greatest = ((1 << (7 * groups)) - 1).min(room);
+            for field in fields_at_edges(*count) {
+                add_with_field(records, *count, field, least);
+                add_with_field(records, *count, field, greatest);
+            }
+            let header = sheet_of(&[1, 0x187, *count]);
+            records.add_in_turn(&[header, many(*count, &[least, least])].concat());
+        }
+    }
+}
+
+/// A good sheet of so many runs whose gaps and lengths are 1 but for one of them.
+fn add_with_field(records: &mut Records, run_count: u64, field: usize, number: u64) {
+    let mut fields = vec![1; 2 * run_count as usize];
+    fields[field] = number;
+    let sheet = [sheet_of(&[1, 0x187, run_count]), sheet_of(&fields)].concat();
+    let right = run_bytes_read(&sheet);
+    records.add(&sheet, right, 4096);
+    records.add(&sheet, right - 4096, 4096);
+}
+
+/// The gap and the length of the first run, the 32nd, the 33rd and the last.
+fn fields_at_edges(run_count: u64) -> Vec<usize> {
+    let mut runs = vec![0, 31, 32, run_count as usize - 1];
+    runs.retain(|run| *run < run_count as usize);
+    runs.dedup();
+    runs.iter().flat_map(|run| [2 * run, 2 * run + 1]).collect()
 }
 
 /// Good sheets with bytes behind them, up to the longest sheet.
@@ -269,9 +331,7 @@ fn trailing_bytes(records: &mut Records) {
 
 /// Long good sheets, ending at each of their bytes.
 fn truncations(records: &mut Records) {
-    let mut random = Xorshift {
-        state: 0x0123_4567_89AB_CDEF,
-    };
+    let mut random = Xorshift::seeded(1);
     let six_groups = [1, NUMBER_LIMIT - 1, 1, 1 << 35, 1 << 35];
     let mut sheets = vec![sheet_of(&six_groups)];
     for widest in [7, 14, 21, 28, 31] {
@@ -282,6 +342,45 @@ fn truncations(records: &mut Records) {
             records.add_with_all_lengths(&sheet[..end]);
         }
     }
+}
+
+/// Good sheets of more than 32 runs that end at a place, or whose byte there is changed, dropped or doubled.
+fn damaged_long_sheets(records: &mut Records) {
+    let mut random = Xorshift::seeded(2);
+    for (run_count, widest) in [
+        (33, 28),
+        (127, 21),
+        (128, 14),
+        (210, 21),
+        (999, 21),
+        (MOST_RUNS, 26),
+    ] {
+        let sheet = random.sheet(run_count, widest);
+        for place in sampled_places(sheet.len(), &mut random) {
+            let (before, after) = (&sheet[..place], &sheet[place + 1..]);
+            let byte = sheet[place];
+            let others: [&[u8]; 5] = [
+                &[byte ^ 0x80],
+                &[0],
+                &[random.below(256) as u8],
+                &[],
+                &[byte, byte],
+            ];
+            records.add_in_turn(before);
+            for other in others {
+                records.add_in_turn(&[before, other, after].concat());
+            }
+        }
+    }
+}
+
+/// Every place of a sheet, or of a long one the first, the last and some between.
+fn sampled_places(length: usize, random: &mut Xorshift) -> Vec<usize> {
+    let one_in = 1 + length as u64 / 1000 * 5;
+    let at_edge = |place: usize| place < 64 || place + 64 >= length;
+    (0..length)
+        .filter(|place| at_edge(*place) || random.below(one_in) == 0)
+        .collect()
 }
 
 /// Good sheets with file lengths near the right ones or alike in their low bits.
@@ -327,11 +426,13 @@ fn file_lengths(records: &mut Records) {
 
 /// Random good sheets with one byte changed, dropped or doubled, or none.
 fn changed_sheets(records: &mut Records, how_many: usize) {
-    let mut random = Xorshift {
-        state: 0xFEDC_BA98_7654_3210,
-    };
+    let mut random = Xorshift::seeded(3);
     for _ in 0..how_many {
-        let run_count = 1 + random.below(32);
+        let run_count = match random.below(64) {
+            0 => 128 + random.below(MOST_RUNS - 127),
+            1..=4 => 33 + random.below(95),
+            _ => 1 + random.below(32),
+        };
         let widest = 1 + random.below(36);
         let mut sheet = random.sheet(run_count, widest);
         let place = random.below(sheet.len() as u64) as usize;

@@ -24,7 +24,7 @@ use common::tally::{print_table, Tally};
 use second::number::Refusal;
 use second::sheet::{check_sheet, Case};
 use second::slip::{self, Slip, SHEET_SLIPS};
-use sheet_cases::{each_record, Record};
+use sheet_cases::{each_record, Record, ACCEPTED_RUN_COUNTS};
 use std::io::{self, BufRead, BufReader, BufWriter, Write};
 use std::process::{ChildStdin, Command, ExitCode, ExitStatus, Stdio};
 use std::thread;
@@ -39,8 +39,8 @@ fn answers() -> Vec<u64> {
 /// How many differing cases are printed.
 const MOST_SHOWN: usize = 5;
 
-/// How much of a differing line is printed.
-const MOST_LINE_BYTES: usize = 1000;
+/// How much of a differing sheet or line is printed.
+const MOST_BYTES_SHOWN: usize = 1000;
 
 /// Answers that the paper itself states: sheet, image length, line.
 const STATED: [(&[u8], u64, &str); 2] = [
@@ -115,6 +115,8 @@ fn read_arguments(mut words: impl Iterator<Item = String>) -> Result<Arguments, 
 struct Comparison {
     cases: u64,
     answers: Tally,
+    /// The accepted sheets of certain run counts.
+    runs: Tally,
     differing: u64,
     shown: Vec<String>,
     missing: u64,
@@ -159,6 +161,7 @@ fn compare_lines(mut output: impl BufRead, slip: Slip, longer: bool) -> io::Resu
     let mut comparison = Comparison {
         cases: 0,
         answers: Tally::new("answer", answers()),
+        runs: Tally::new("accepted, runs", ACCEPTED_RUN_COUNTS.to_vec()),
         differing: 0,
         shown: Vec::new(),
         missing: 0,
@@ -191,6 +194,12 @@ fn compare_line(comparison: &mut Comparison, record: &Record, line: &[u8], slip:
     );
     let number = answer.as_ref().err().copied().unwrap_or(0);
     comparison.answers.count(u64::from(number));
+    if let Ok(case) = &answer {
+        let count = case.runs.len() as u64;
+        if ACCEPTED_RUN_COUNTS.contains(&count) {
+            comparison.runs.count(count);
+        }
+    }
     comparison.cases += 1;
     if line.is_empty() {
         comparison.missing += 1;
@@ -219,20 +228,23 @@ fn line_of(answer: &Result<Case, Refusal>) -> String {
 }
 
 fn differing_case(record: &Record, line: &[u8], wanted: &str) -> String {
-    let line = &line[..line.len().min(MOST_LINE_BYTES)];
+    let shown = [record.sheet, line, wanted.as_bytes()];
+    let [sheet, line, wanted] = shown.map(|bytes| &bytes[..bytes.len().min(MOST_BYTES_SHOWN)]);
     format!(
-        "sheet [{}] image length 0x{:X} pagefile length 0x{:X}\n{}\n{}",
-        hex(record.sheet),
+        "sheet [{}] of {} bytes, image length 0x{:X} pagefile length 0x{:X}\n{}\n{}",
+        hex(sheet),
+        record.sheet.len(),
         record.image_length,
         record.pagefile_length,
         format_args!("  program:       \"{}\"", line.escape_ascii()),
-        format_args!("  second reader: \"{}\"", wanted.escape_default()),
+        format_args!("  second reader: \"{}\"", wanted.escape_ascii()),
     )
 }
 
 /// Prints the table and every reason to fail; true if there is none.
 fn report(comparison: &Comparison, status: ExitStatus) -> bool {
     print_table(&[&comparison.answers]);
+    print_table(&[&comparison.runs]);
     comparison
         .shown
         .iter()
@@ -264,6 +276,7 @@ fn reasons_to_fail(comparison: &Comparison, status: ExitStatus) -> Vec<String> {
         reasons.push(format!("the program ended with {}", status));
     }
     reasons.extend(comparison.answers.reasons(&answers()));
+    reasons.extend(comparison.runs.reasons(ACCEPTED_RUN_COUNTS));
     for (sheet, image_length, line) in STATED {
         let ours = line_of(&check_sheet(sheet, image_length, 0, Slip::None));
         if ours != line {

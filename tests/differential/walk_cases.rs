@@ -2,6 +2,7 @@
 
 use crate::common::case_files::{damage_files, damage_tables, other_sheet, CaseFiles};
 use crate::common::groups::sheet_of;
+use crate::common::many_runs::each_with_many_runs;
 use crate::common::memory::{canonical, sheet_fields, Memory, EDGE_PAGES, PAGE_BYTES};
 use crate::common::random::Xorshift;
 
@@ -18,10 +19,7 @@ pub struct Question {
 
 /// Hands so many questions to `take`, the same ones in the same order for the same seed.
 pub fn each_question(seed: u64, how_many: u64, take: &mut dyn FnMut(&CaseFiles, &Question)) {
-    // A state of 0 would stay 0.
-    let mut random = Xorshift {
-        state: seed.wrapping_add(1).wrapping_mul(0x9E37_79B9_7F4A_7C15) | 1,
-    };
+    let mut random = Xorshift::seeded(seed);
     let mut questions = Questions {
         take,
         left: how_many,
@@ -31,6 +29,44 @@ pub fn each_question(seed: u64, how_many: u64, take: &mut dyn FnMut(&CaseFiles, 
         let pages = lay_pages(&mut memory);
         ask_about(&mut memory, &pages, &mut questions);
         random = memory.random;
+    }
+}
+
+/// Hands questions about the edges of every run to `take`, in memory of more than 32 runs, then with damaged sheets.
+pub fn each_question_about_runs(seed: u64, take: &mut dyn FnMut(&CaseFiles, &Question)) {
+    each_with_many_runs(seed, &mut |many| {
+        let mut files = many.take_files();
+        let pages: Vec<u64> = many.runs.iter().flat_map(|run| run.pages).collect();
+        let memory = &mut many.memory;
+        for page in &pages {
+            take(&files, &question_in(*page, &mut memory.random));
+        }
+        let good_sheet = files.sheet.clone();
+        for page in pages.iter().step_by(pages.len() / 8) {
+            let fields = memory.sheet_fields();
+            other_sheet(&mut files, memory, fields);
+            take(&files, &question_in(*page, &mut memory.random));
+        }
+        files.sheet = good_sheet;
+        damage_files(&mut files, &mut memory.random);
+        take(&files, &question_in(pages[0], &mut memory.random));
+    });
+}
+
+/// A byte of a page, and a read from there on, often into the next page.
+fn question_in(page: u64, random: &mut Xorshift) -> Question {
+    let address = page + place_in_page(random);
+    let rest = 0x1000 - (address & 0xFFF);
+    let n = match random.below(4) {
+        0 => rest,
+        1 => rest + 1 + random.below(64),
+        _ => 1 + random.below(64),
+    };
+    Question {
+        address,
+        start: address,
+        n,
+        room: n as usize,
     }
 }
 

@@ -6,6 +6,7 @@ mod common {
     pub mod case_files;
     pub mod codes;
     pub mod groups;
+    pub mod many_runs;
     pub mod memory;
     pub mod print;
     pub mod random;
@@ -29,6 +30,7 @@ mod walk_cases;
 use common::arguments;
 use common::case_files::CaseFiles;
 use common::codes::{address_numbers, CASE_REFUSALS, NOT_CANONICAL, PAGE_REFUSALS, PLACES};
+use common::many_runs::ByRuns;
 use common::print::{hex, with_commas};
 use common::tally::{print_table, Tally, LEAST_TIMES};
 use run_edges::{each_edge, Edge, EdgeTimes};
@@ -36,7 +38,7 @@ use second::bytes;
 use second::slip::{Slip, WALK_SLIPS};
 use second::walk::{self, word_at, Files, Place};
 use std::process::ExitCode;
-use walk_cases::{each_question, Question, Stated, MOST_ROOM, STATED};
+use walk_cases::{each_question, each_question_about_runs, Question, Stated, MOST_ROOM, STATED};
 
 /// Every number that a read can hand back.
 fn read_numbers() -> Vec<u64> {
@@ -61,9 +63,10 @@ const GUARD: usize = 64;
 fn main() -> ExitCode {
     arguments::run("walks", 200_000, WALK_SLIPS, |arguments| {
         let mut comparison = Comparison::new(arguments.slip);
-        each_question(arguments.seed, arguments.cases, &mut |files, question| {
-            comparison.compare(files, question);
-        });
+        let mut compare =
+            |files: &CaseFiles, question: &Question| comparison.compare(files, question);
+        each_question(arguments.seed, arguments.cases, &mut compare);
+        each_question_about_runs(arguments.seed, &mut compare);
         let times = arguments.cases / CASES_AN_EDGE;
         each_edge(arguments.seed, times, &mut |files, edge| {
             comparison.meet(files, edge)
@@ -81,6 +84,8 @@ struct Comparison {
     cases: u64,
     resolved: Tally,
     read: Tally,
+    resolved_by_runs: ByRuns,
+    read_by_runs: ByRuns,
     /// By the prototype entries followed: all answers of accepted cases, and those found.
     chains: [[u64; 2]; MOST_PROTOTYPES + 1],
     most_entries: u64,
@@ -98,6 +103,8 @@ impl Comparison {
             cases: 0,
             resolved: Tally::new("resolve", address_numbers()),
             read: Tally::new("read", read_numbers()),
+            resolved_by_runs: ByRuns::new("resolve", address_numbers()),
+            read_by_runs: ByRuns::new("read", read_numbers()),
             chains: [[0; 2]; MOST_PROTOTYPES + 1],
             most_entries: 0,
             edges: EdgeTimes::new(),
@@ -152,6 +159,7 @@ impl Comparison {
         let theirs = exports::resolve(files.sheet, files.image, files.pagefile, address);
         let ours = walk::resolve(files, address, self.slip);
         self.resolved.count(ours.number);
+        self.resolved_by_runs.count(files.sheet, ours.number);
         self.most_entries = self.most_entries.max(ours.entries);
         let chain = ours.prototypes as usize;
         if !CASE_REFUSALS.contains(&ours.number) && chain <= MOST_PROTOTYPES {
@@ -207,6 +215,7 @@ impl Comparison {
         );
         let ours = bytes::read(files, start, n, &mut our_buffer[..room], slip);
         self.read.count(ours.number);
+        self.read_by_runs.count(files.sheet, ours.number);
         [
             [theirs.number, theirs.length, theirs.zeros],
             [ours.number, ours.length, ours.zeros],
@@ -275,6 +284,8 @@ fn entries_text(files: Files, address: u64, slip: Slip) -> String {
 /// Prints the tables and every reason to fail; true if there is none.
 fn report(comparison: &Comparison, least_edge_times: u64) -> bool {
     print_table(&[&comparison.resolved, &comparison.read]);
+    comparison.resolved_by_runs.print();
+    comparison.read_by_runs.print();
     println!("{:>6} {:>12} {:>12}", "depth", "answers", "found");
     for (chain, [answers, found]) in comparison.chains.iter().enumerate() {
         let (answers, found) = (with_commas(*answers), with_commas(*found));
@@ -301,6 +312,8 @@ fn reasons_to_fail(comparison: &Comparison, least_edge_times: u64) -> Vec<String
     }
     reasons.extend(comparison.resolved.reasons(&address_numbers()));
     reasons.extend(comparison.read.reasons(&read_numbers()));
+    reasons.extend(comparison.resolved_by_runs.reasons(&[1, 23]));
+    reasons.extend(comparison.read_by_runs.reasons(&[0, 23]));
     for (chain, [_, found]) in comparison.chains.iter().enumerate() {
         if *found < LEAST_TIMES {
             reasons.push(format!(

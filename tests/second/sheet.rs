@@ -14,6 +14,9 @@ pub const PAGEFILE_LENGTH_WRONG: Refusal = 16;
 
 pub const PAGE_BYTES: u64 = 4096;
 
+/// The most runs that a sheet has.
+pub const MOST_RUNS: u64 = 1000;
+
 /// Frames that lie in the image one after another.
 #[derive(Clone, Copy)]
 pub struct Run {
@@ -90,7 +93,10 @@ fn read_fields(numbers: &mut Numbers, case: &mut Case, slip: Slip) -> Result<(),
     if slip == Slip::EditionJudgedAfterDirectory {
         judge_edition(edition, slip)?;
     }
-    let run_count = numbers.read()?;
+    let run_count = match slip {
+        Slip::CountSecondByteDropped => numbers.read()? % 128,
+        _ => numbers.read()?,
+    };
     if slip != Slip::CountJudgedAfterRuns {
         judge_run_count(run_count, slip)?;
     }
@@ -115,10 +121,11 @@ fn judge_edition(edition: u64, slip: Slip) -> Result<(), Refusal> {
 
 fn judge_run_count(run_count: u64, slip: Slip) -> Result<(), Refusal> {
     let allowed = match slip {
-        Slip::ZeroRunsTaken => 0..=32,
-        Slip::ThirtyTwoRunsRefused => 1..=31,
-        Slip::ThirtyThreeRunsTaken => 1..=33,
-        _ => 1..=32,
+        Slip::ZeroRunsTaken => 0..=MOST_RUNS,
+        Slip::OldRunLimitKept => 1..=32,
+        Slip::ThousandRunsRefused => 1..=MOST_RUNS - 1,
+        Slip::ThousandAndOneRunsTaken => 1..=MOST_RUNS + 1,
+        _ => 1..=MOST_RUNS,
     };
     if !allowed.contains(&run_count) {
         return Err(OUTSIDE_LIMITS);

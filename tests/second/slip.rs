@@ -33,8 +33,10 @@ slips! {
         EditionJudgedAfterDirectory
         DirectoryLimitDropped
         ZeroRunsTaken
-        ThirtyTwoRunsRefused
-        ThirtyThreeRunsTaken
+        OldRunLimitKept
+        ThousandRunsRefused
+        ThousandAndOneRunsTaken
+        CountSecondByteDropped
         CountJudgedAfterRuns
         MissingRunsTaken
         GapDropped
@@ -96,6 +98,7 @@ slips! {
         RunEndInclusive
         RunBaseNotSummed
         LastRunUnseen
+        RunsPast32Unseen
         GapsNotSkipped
         MissingTableIs21
         TransitionCalledMissing

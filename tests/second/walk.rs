@@ -216,10 +216,12 @@ impl<'a> Walk<'a> {
 
     /// The image page of a frame, or 23.
     fn image_page(&self, frame: u64) -> Result<u64, Refusal> {
-        let mut runs = &self.case.runs[..];
-        if self.slip == Slip::LastRunUnseen {
-            runs = &runs[..runs.len() - 1];
-        }
+        let runs = &self.case.runs[..];
+        let runs = match self.slip {
+            Slip::LastRunUnseen => &runs[..runs.len() - 1],
+            Slip::RunsPast32Unseen => &runs[..runs.len().min(32)],
+            _ => runs,
+        };
         let mut pages_before = 0;
         for run in runs {
             let end = run.first_frame + run.pages;
