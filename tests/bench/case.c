@@ -28,24 +28,28 @@ static void put_number(struct bench_case *c, uint64_t n) {
     c->sheet[c->sheet_length++] = (uint8_t)n;
 }
 
-/* Runs of equal length, one frame apart. */
+/* The runs divide the image as evenly as they can. */
+static uint64_t first_page(const struct bench_case *c, size_t run) { return run * (c->image_length / PAGE_BYTES) / c->run_count; }
+
+/* Runs one frame apart. */
 static void make_runs(struct bench_case *c, size_t run_count) {
-    uint64_t pages = c->image_length / PAGE_BYTES / run_count;
     c->run_count = run_count;
     c->sheet_length = 0;
     put_number(c, 1);
     put_number(c, 0);
     put_number(c, run_count);
     for (size_t i = 0; i < run_count; i++) {
-        c->rows[3 * i] = i * (pages + 1);
-        c->rows[3 * i + 1] = c->rows[3 * i] + pages;
+        uint64_t first = first_page(c, i), after = first_page(c, i + 1);
+        c->rows[3 * i] = first + i;
+        c->rows[3 * i + 1] = after + i;
         c->rows[3 * i + 2] = i;
         put_number(c, i != 0);
-        put_number(c, pages);
+        put_number(c, after - first);
     }
 }
 
-static uint64_t frame_of(const struct bench_case *c, uint64_t page) { return page + page / (FRAMES / c->run_count); }
+/* A page's run is the last whose first page is not behind it. */
+static uint64_t frame_of(const struct bench_case *c, uint64_t page) { return page + ((page + 1) * c->run_count - 1) / FRAMES; }
 
 static void put_word(struct bench_case *c, uint64_t page, uint64_t place, uint64_t word) {
     memcpy(c->image + page * PAGE_BYTES + place, &word, 8);

@@ -7,7 +7,7 @@
 
 enum {
     PAGE_BYTES = 4096,
-    MOST_RUNS = 32,
+    MOST_RUNS = 1000,
     MAPPED_PAGES = 1 << 20,
     LIST_NODES = 4096
 };
@@ -19,7 +19,7 @@ enum {
 struct bench_case {
     uint8_t *image;
     size_t image_length;
-    uint8_t sheet[512];
+    uint8_t sheet[9 + 12 * MOST_RUNS]; /* no accepted sheet is longer */
     size_t sheet_length;
     uint64_t rows[3 * MOST_RUNS]; /* the runs as crates/sheet hands them to the walk */
     size_t run_count;

@@ -3,7 +3,7 @@
 #include <stdbool.h>
 #include <string.h>
 
-enum { PAGE_BYTES = 4096, MOST_RUNS = 32, MOST_NODES = 4096 };
+enum { PAGE_BYTES = 4096, MOST_RUNS = 1000, MOST_NODES = 4096 };
 
 /* Refusals, as documents 01 and 02 number them. */
 enum {

@@ -171,7 +171,7 @@ static const struct {
     {POOLS, {"pool headers, 256 MiB of dense pools, a page", SEARCHED_PAGES, search_pool, copy_image, NULL}},
 };
 
-static const size_t run_counts[] = {1, 2, 8, MOST_RUNS};
+static const size_t run_counts[] = {1, 2, 8, 32, 210, MOST_RUNS};
 
 static double seconds(void) {
     struct timespec t;
