@@ -5,7 +5,8 @@
  *   - each pointer is valid for its length (NULL with length 0 is an empty slice), and each length is the true one;
  *   - `out` lies apart from the inputs;
  *   - nobody changes the inputs, or the files that they are mapped from, during the call.
- * `sheet` is the case sheet, `image` the raw memory image, `pagefile` the pagefile (length 0 if there is none).
+ * `sheet` is the case sheet, of 1 to 1,000 runs, `image` the raw memory image, `pagefile` the pagefile (length 0 if there is
+ * none).
  *
  * Threads: the calls keep no state, so any number of them may run at once, also over the same inputs; each needs an `out`
  * of its own.
