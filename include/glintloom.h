@@ -35,9 +35,9 @@ extern "C" {
 enum glint_kind {
     GLINT_KIND_ANSWER,     /* the call answers, with no place in a file */
     GLINT_KIND_PLACE,      /* it answers with a place in a file */
-    GLINT_KIND_CASE,       /* it refuses the case as a whole; some of these refuse a map too */
+    GLINT_KIND_CASE,       /* it refuses the case as a whole; some of these refuse a map, or runs to be written, too */
     GLINT_KIND_ADDRESS,    /* it refuses an address of the case */
-    GLINT_KIND_CALL        /* it refuses by a rule of its own, on maps, reads, lists, blocks or pools */
+    GLINT_KIND_CALL        /* it refuses by a rule of its own, on maps, reads, lists, blocks, pools or sheets to be written */
 };
 
 /* The numbers of the answers, each as (name, number, kind, words). */
@@ -56,6 +56,7 @@ enum glint_kind {
     X(TRAILING_BYTES, 14, CASE, "bytes after the last field")                                   \
     X(IMAGE_LENGTH_DIFFERS, 15, CASE, "image length is not the sum of the runs")                \
     X(PAGEFILE_NOT_WHOLE_PAGES, 16, CASE, "pagefile length not a multiple of 4,096")            \
+    X(SHEET_BUFFER_SHORT, 17, CALL, "sheet buffer too short")                                   \
     X(NOT_CANONICAL, 20, ADDRESS, "address not canonical, or past the top")                     \
     X(UPPER_ENTRY_NOT_VALID, 21, ADDRESS, "first or second level entry not valid")              \
     X(REGION_NEEDED, 22, ADDRESS, "region record needed")                                       \
