@@ -5,17 +5,14 @@ use mathlib.Core.Bool.{Bool, true, false, not, _&&_}
 use Prim.Native.Nat.{ℕ, zero, suc, _+_, _-_, _^_, _<_, _≤_}
 use native.Mathlib.Omega.{arith}
 use lib.Dec.{ltb}
-use lib.ListN.{length, take, drop, length-append, length-drop, take-append-drop}
-use lib.Seq.{drop-at, drop-drop, length-take-le}
+use lib.ListN.{length, drop, length-append}
 use borrow.Author.Tests.{eq-eqb, ne-eqb}
 use Rattle.base.specs.Notation.{if_then_else_}
 use Rattle.base.proofs.Codes.{code-small}
 use Rattle.varint.specs.Reader.{got, Reader, return}
 use Rattle.varint.specs.Groups.{encode, number}
 use Rattle.varint.specs.Edition.{edition, editionFields}
-use Rattle.varint.proofs.Forms.{round-trip}
-use Rattle.varint.proofs.Fields.{field-small}
-use Rattle.varint.proofs.Writing.{encode-length}
+use Rattle.varint.proofs.Standing.{number-at, drop-after}
 use Rattle.map_format.specs.Extents.{hasFilePage, pageAfter, extent, noExtent, joins, joined, extentsOf, extentPages}
 use Rattle.map_format.specs.Layout.{headerBytes, extentBytes, extentsBytes, mapBytes}
 use Rattle.map_format.specs.Reading.{inHalf, headerFields, firstFrom, sound, extentFrom, extentsFrom, mapFields}
@@ -26,20 +23,6 @@ use Rattle.map_format.proofs.Answers.{Mappable, AllMappable}
 use Rattle.map_format.proofs.HeaderFields.{in-half}
 use Rattle.map_format.proofs.Rules.{KeepsRules, apart}
 use Rattle.map_format.proofs.Pages.{joins-true, after-add, pages-sum}
-
--- ---- a number that stands at a place
-pub number-reads : (before rest : List ℕ) (n : ℕ) → n < 2 ^ 36 → number (before ++ (encode n ++ rest)) (length before) ≡ got n (length before + length (encode n))
-number-reads before rest n h = field-small (before ++ (encode n ++ rest)) (length before) n (length before + length (encode n)) (round-trip before rest n (omega arith)) h
-
-pub number-at : (s : List ℕ) (at n : ℕ) (rest : List ℕ) → n < 2 ^ 36 → drop at s ≡ encode n ++ rest → number s at ≡ got n (at + length (encode n))
-number-at s at n rest h e =
-    let inside : at ≤ length s = omega (arith, length-drop at s, ap length e, length-append (encode n) rest, encode-length n) in
-    let long : length (take at s) ≡ at = length-take-le at s inside in
-    let parts : take at s ++ (encode n ++ rest) ≡ s = ap (λ (l : List ℕ). take at s ++ l) (sym e) ∙ take-append-drop at s in
-    rw (parts, long) at (number-reads (take at s) rest n h)
-
-pub drop-after : (s : List ℕ) (at : ℕ) (xs rest : List ℕ) → drop at s ≡ xs ++ rest → drop (at + length xs) s ≡ rest
-drop-after s at xs rest e = sym (drop-drop (length xs) at s) ∙ ap (drop (length xs)) e ∙ drop-at xs rest (length xs) refl
 
 -- ---- an extent that keeps the rules
 

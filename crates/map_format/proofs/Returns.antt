@@ -10,7 +10,6 @@ use Rattle.base.specs.Notation.{if_then_else_}
 use Rattle.base.specs.Overlay.{Wrote}
 use Rattle.base.proofs.Overlay.{wrote-none, wrote-then}
 use Rattle.varint.specs.Groups.{encode}
-use Rattle.varint.proofs.Writing.{encode-length}
 use Rattle.map_format.specs.Extents.{hasFilePage, pageAfter}
 use Rattle.map_format.specs.Layout.{headerBytes, extentBytes}
 use Rattle.map_format.specs.Build.{openExtent, openBytes, followsOf, afterPage, writtenFor, PagesTaken}
@@ -33,9 +32,6 @@ module _ (c n f : ℕ) (r : Bool) (er : r ≡ hasFilePage c) where
   pub page-same : r ≡ false → f ≡ pageAfter c n f
   unfolding pageAfter
   page-same t = sym (ap (λ (b : Bool). if b then f + n else f) (sym er ∙ t))
-
-pub six-at-most : (n : ℕ) {o o′ : List ℕ} {at r : ℕ} → Wrote o at (encode n) r o′ → r ≤ at + 6
-six-at-most n {o} {o′} {at} {r} p = omega (arith, p .place, encode-length n)
 
 pub wrote-header : (h : Header) {o o₁ o₂ o₃ : List ℕ} {a b r : ℕ}
     → Wrote o 0 (encode 1) a o₁

@@ -1,6 +1,7 @@
 -- Two or three numbers written one after another, each of 6 bytes at most.
 use native.Mathlib.Omega.{arith}
-use Rattle.map_format.proofs.Returns.{six-at-most, wrote-page, wrote-no-page}
+use Rattle.varint.proofs.Writing.{six-at-most}
+use Rattle.map_format.proofs.Returns.{wrote-page, wrote-no-page}
 use borrow.Author.Needs.{needs}
 use Rattle.map_format.proofs.write_extent.Statement.{statement}
 use Rattle.map_format.proofs.write_extent.Tie as tie

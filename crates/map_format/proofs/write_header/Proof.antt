@@ -1,6 +1,7 @@
 -- Three numbers written one after another, each of 6 bytes at most.
 use native.Mathlib.Omega.{arith}
-use Rattle.map_format.proofs.Returns.{six-at-most, wrote-header}
+use Rattle.varint.proofs.Writing.{six-at-most}
+use Rattle.map_format.proofs.Returns.{wrote-header}
 use borrow.Author.Needs.{needs}
 use Rattle.map_format.proofs.write_header.Statement.{statement}
 use Rattle.map_format.proofs.write_header.Tie as tie
