@@ -1,0 +1,9 @@
+pub mod Joining
+pub mod ReadBack
+pub mod Lengths
+pub mod Limits
+pub mod Counting
+pub mod Writing
+pub mod Whole
+pub mod Judging
+pub mod Examples

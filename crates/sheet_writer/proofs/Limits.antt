@@ -1,0 +1,106 @@
+-- The limits of what is given, test by test; and what lists within them keep to.
+use mathlib.Core.Path.{_≡_, refl, ap}
+use mathlib.Core.Bool.{true, false, and-true, and-false}
+use mathlib.Core.List.{List, [], _∷_}
+use Prim.Native.Nat.{ℕ, zero, suc, _+_, _^_, _<_, _≤_}
+use native.Mathlib.Numerals.{add-one}
+use native.Mathlib.Omega.{arith}
+use lib.Dec.{ltb, leb, eqb}
+use lib.ListN.{length, getD, drop, drop-of-length-le}
+use lib.Seq.{drop-cons}
+use borrow.Author.Tests.{lt-ltb, le-ltb, le-leb, lt-leb, eq-eqb, ne-eqb, ltb-true, leb-true, eqb-true}
+use Rattle.base.proofs.Test.{both-true}
+use Rattle.sheet_writer.specs.Write.{allBelow, inLimits, runsOf}
+use Rattle.sheet_writer.specs.Inner.{Given, runAt}
+
+-- ---- numbers below 2^36
+
+-- the numbers before place i are
+pub record Looked (ns : List ℕ) (i : ℕ) : Type 0 where
+  pub within : i ≤ length ns
+  pub same : allBelow ns ≡ allBelow (drop i ns)
+
+pub looked-none : (ns : List ℕ) → Looked ns 0
+looked-none ns = record { within = omega arith; same = refl }
+
+module _ {ns : List ℕ} {i : ℕ} (q : Looked ns i) where
+  module _ (h : i < length ns) where
+    pub looked-large : 2 ^ 36 ≤ getD ns i 0 → false ≡ allBelow ns
+    looked-large l = rw (q .same, drop-cons ns i 0 h, le-ltb (getD ns i 0) (2 ^ 36) l)
+
+    pub looked-next : getD ns i 0 < 2 ^ 36 → Looked ns (i + 1)
+    looked-next l = record { within = omega arith; same = rw (q .same, drop-cons ns i 0 h, lt-ltb (getD ns i 0) (2 ^ 36) l, add-one) }
+
+  pub looked-all : length ns ≤ i → true ≡ allBelow ns
+  looked-all h = rw (q .same, drop-of-length-le ns h)
+
+pub below-at : (ns : List ℕ) (i : ℕ) → allBelow ns ≡ true → i < length ns → getD ns i 0 < 2 ^ 36
+below-at [] i b h = absurd (omega arith)
+below-at (n ∷ ns) zero b h = ltb-true n (2 ^ 36) (both-true (ltb n (2 ^ 36)) (allBelow ns) b .0)
+below-at (n ∷ ns) (suc i) b h = below-at ns i (both-true (ltb n (2 ^ 36)) (allBelow ns) b .1) (omega arith)
+
+-- ---- all limits
+
+module _ (directory : ℕ) (starts lengths : List ℕ) where
+  pub other-number : (length starts ≡ length lengths → ⊥) → false ≡ inLimits directory starts lengths
+  unfolding inLimits
+  other-number h = rw (ne-eqb (length starts) (length lengths) h, and-false, and-false)
+
+  pub no-run : length starts < 1 → false ≡ inLimits directory starts lengths
+  unfolding inLimits
+  no-run h = rw (lt-leb 1 (length starts) h, and-false, and-false, and-false)
+
+  pub many-runs : 1000 < length starts → false ≡ inLimits directory starts lengths
+  unfolding inLimits
+  many-runs h = rw (lt-leb (length starts) 1000 h, and-false, and-false, and-false, and-false)
+
+  pub large-directory : 2 ^ 36 ≤ directory → false ≡ inLimits directory starts lengths
+  unfolding inLimits
+  large-directory h = rw (le-ltb directory (2 ^ 36) h)
+
+  pub large-start : allBelow starts ≡ false → false ≡ inLimits directory starts lengths
+  unfolding inLimits
+  large-start h = rw (h, and-false)
+
+  pub but-lengths : length starts ≡ length lengths → 1 ≤ length starts → length starts ≤ 1000 → directory < 2 ^ 36 → allBelow starts ≡ true
+      → allBelow lengths ≡ inLimits directory starts lengths
+  unfolding inLimits
+  but-lengths e s m d b =
+      rw (eq-eqb (length starts) (length lengths) e, le-leb 1 (length starts) s, le-leb (length starts) 1000 m, lt-ltb directory (2 ^ 36) d, b, and-true)
+
+  pub limits : inLimits directory starts lengths ≡ true → (directory < 2 ^ 36) × Given starts lengths
+  unfolding inLimits
+  limits h =
+      let p = both-true (allBelow (directory ∷ starts)) _ h in
+      let q = both-true (ltb directory (2 ^ 36)) (allBelow starts) (p .0) in
+      let l = both-true (allBelow lengths) _ (p .1) in
+      let n = both-true (eqb (length starts) (length lengths)) _ (l .1) in
+      let w = both-true (leb 1 (length starts)) (leb (length starts) 1000) (n .1) in (
+        ltb-true directory (2 ^ 36) (q .0),
+        record {
+          some = leb-true 1 (length starts) (w .0);
+          most = leb-true (length starts) 1000 (w .1);
+          alike = eqb-true (length starts) (length lengths) (n .0);
+          starts-below = q .1;
+          lengths-below = l .0;
+        },
+      )
+
+-- ---- the runs as given
+
+pub runs-length : (ss ls : List ℕ) → length ss ≡ length ls → length (runsOf ss ls) ≡ length ss
+runs-length [] ls e = refl
+runs-length (s ∷ ss) [] e = absurd (omega arith)
+runs-length (s ∷ ss) (l ∷ ls) e = ap suc (runs-length ss ls (omega arith))
+
+-- the run at place i and those after it
+pub runs-next : (ss ls : List ℕ) (i : ℕ) → i < length ss → length ss ≡ length ls → runsOf (drop i ss) (drop i ls) ≡ runAt ss ls i ∷ runsOf (drop (i + 1) ss) (drop (i + 1) ls)
+runs-next ss ls i h e = rw (drop-cons ss i 0 h, drop-cons ls i 0 (omega arith), add-one)
+
+pub runs-none : (ss ls : List ℕ) (i : ℕ) → length ss ≤ i → runsOf (drop i ss) (drop i ls) ≡ []
+runs-none ss ls i h = rw (drop-of-length-le ss h)
+
+module _ {ss ls : List ℕ} (g : Given ss ls) (i : ℕ) (h : i < length ss) where
+  -- a given run's numbers are below 2^36
+  pub run-below : (runAt ss ls i .first .0 < 2 ^ 36) × (runAt ss ls i .pages < 2 ^ 36)
+  run-below = (below-at ss i (g .starts-below) h, below-at ls i (g .lengths-below) (omega (arith, g .alike)))

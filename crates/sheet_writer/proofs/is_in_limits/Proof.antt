@@ -1,0 +1,53 @@
+-- Each test of the code is a limit of the definition.
+use mathlib.Core.Path.{sym, _∙_}
+use native.Mathlib.Omega.{arith}
+use denote.Ref.{now}
+use borrow.Author.Needs.{needs}
+use borrow.Author.Tests.{not-true, not-false}
+use Rattle.sheet_writer.proofs.Limits.{other-number, no-run, many-runs, large-directory, large-start, but-lengths}
+use Rattle.sheet_writer.proofs.is_in_limits.Statement.{statement}
+use Rattle.sheet_writer.proofs.is_in_limits.Tie as tie
+
+returns : tie.Need-returns
+returns c = other-number _ _ _ (λ alike. omega (arith, alike, c .if1 .taken))
+
+returns-2 : tie.Need-returns-2
+returns-2 c = no-run _ _ _ (omega (arith, c .if2 .taken))
+
+returns-3 : tie.Need-returns-3
+returns-3 c = many-runs _ _ _ (omega (arith, c .if3 .taken))
+
+returns-4 : tie.Need-returns-4
+returns-4 c = large-directory _ _ _ (omega (arith, c .if4 .taken))
+
+all-below-requires : tie.Need-all-below-requires
+all-below-requires c κs = search needs
+
+returns-5 : tie.Need-returns-5
+returns-5 c = large-start _ _ _ (sym (c .before .all-below .ensures) ∙ not-true _ (c .if5 .taken))
+
+all-below-requires-2 : tie.Need-all-below-requires-2
+all-below-requires-2 c κs = search needs
+
+returns-6 : tie.Need-returns-6
+returns-6 c =
+    let at-starts = c .before .before in
+    let at-most = at-starts .before .before in
+    let at-alike = at-most .before .before in
+    let given = at-alike .before .before .before .args in
+    let limits = but-lengths (given .directory) (now (given .starts)) (now (given .lengths)) in
+    let count = limits (omega (arith, at-alike .if1 .left)) (omega (arith, at-most .before .if2 .left)) (omega (arith, at-most .if3 .left)) in
+    rw (c .all-below2 .ensures) (count (omega (arith, at-starts .before .if4 .left)) (sym (at-starts .all-below .ensures) ∙ not-false _ (c .before .if5 .left)))
+
+pub is-in-limits-spec : {M : Type 1} → statement M
+is-in-limits-spec =
+    tie.close
+    (tie.spec
+    returns
+    returns-2
+    returns-3
+    returns-4
+    all-below-requires
+    returns-5
+    all-below-requires-2
+    returns-6)
