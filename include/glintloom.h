@@ -88,10 +88,13 @@ enum {
     GLINT_PAGE_BYTES = 4096,
     GLINT_MAP_PAGES = 1 << 20,     /* a map's range has at most these */
     GLINT_LIST_PROCESSES = 4096,   /* a list has at most these, so `out` of this length is never too short */
-    GLINT_CASE_RUNS = 1000,         /* a case has at most these */
-    GLINT_CASE_NUMBERS = 3 * GLINT_CASE_RUNS,   /* `out` of this length is never too short for a case's runs */
+    GLINT_SHEET_RUNS = 1000,       /* a sheet has at most these */
+    GLINT_CASE_NUMBERS = 3 * GLINT_SHEET_RUNS,   /* `out` of this length is never too short for a case's runs */
     GLINT_PAGE_POOL_HEADERS = 512  /* a page has at most these, so `out` of as many for each page is never too short */
 };
+
+/* No sheet is longer: 1, 6 and 2 bytes before the runs, then at most 12 bytes a run (gap 6, length 6). */
+#define GLINT_SHEET_BYTES ((size_t)9 + (size_t)12 * GLINT_SHEET_RUNS)
 
 /* No map is longer: 1, 6 and 3 bytes before the extents, then at most 8 bytes a page (code 1, length 1, first page 6). */
 #define GLINT_MAP_BYTES ((size_t)10 + (size_t)8 * GLINT_MAP_PAGES)
@@ -173,6 +176,13 @@ glint_written glint_image_length(const uint8_t *sheet, size_t sheet_length);
  * answer's length. Numbers past it stay. A header depends on its page alone, so an image may be handed in by parts of whole
  * pages; the offsets are then from the part's start. */
 glint_written glint_pool_headers(const uint8_t *image, size_t image_length, uint64_t *out, size_t out_length);
+
+/* The sheet of a directory page and of runs, given by their starts and lengths in pages, into `out`; runs that touch are
+ * joined. 12 for a number of 2^36 or more, lists that differ in length, or a count outside 1 to 1,000; then 13 for a length
+ * 0, a start before the end of the run given just before, an end past page 2^36, or joined runs of all 2^36 pages; then 17
+ * exactly if the sheet is longer than `out`. Bytes past the sheet stay. */
+glint_written glint_write_sheet(uint64_t directory, const uint64_t *starts, size_t starts_length,
+                                const uint64_t *lengths, size_t lengths_length, uint8_t *out, size_t out_length);
 
 #ifdef __cplusplus
 }

@@ -16,6 +16,7 @@ ghost use Rattle.maps.specs.Call.{MapAnswer};
 ghost use Rattle.processor_block.specs.Call.{BlockAnswer};
 ghost use Rattle.process_list.specs.Call.{ListAnswer};
 ghost use Rattle.pool.specs.Call.{PoolAnswer};
+ghost use Rattle.sheet_writer.specs.Call.{WriteAnswer};
 
 #[no_mangle]
 pub extern "C" fn glint_resolve(sheet: &[u8], image: &[u8], pagefile: &[u8], address: u64) -> Answer
@@ -118,4 +119,16 @@ pub extern "C" fn glint_pool_headers(image: &[u8], out: &mut [u64]) -> Written
     ensures { λ r. ⌜ PoolAnswer (now (image .entry)) (now (out .entry)) r (now (out .exit)) ⌝ }
 {
     pool::pool_headers(image, out)
+}
+
+#[no_mangle]
+pub extern "C" fn glint_write_sheet(
+    directory: u64,
+    starts: &[u64],
+    lengths: &[u64],
+    out: &mut [u8],
+) -> Written
+    ensures { λ r. ⌜ WriteAnswer directory (now (starts .entry)) (now (lengths .entry)) (now (out .entry)) r (now (out .exit)) ⌝ }
+{
+    sheet_writer::write_sheet(directory, starts, lengths, out)
 }
