@@ -18,7 +18,7 @@ pub const PAGE_BYTES: u64 = 4096;
 pub const MOST_RUNS: u64 = 1000;
 
 /// Frames that lie in the image one after another.
-#[derive(Clone, Copy)]
+#[derive(Clone, Copy, PartialEq)]
 pub struct Run {
     pub first_frame: u64,
     pub pages: u64,

@@ -63,6 +63,82 @@ slips! {
         PagefileHalfPageTaken
     ;
 
+    /// The faults in writing sheets, and in reading back what was written.
+    WRITER_SLIPS:
+        DirectoryUnlimited
+        DirectoryOf2To36Taken
+        LargestDirectoryRefused
+        StartsUnlimited
+        LastStartUnlimited
+        StartOf2To36Taken
+        LargestStartRefused
+        LengthsUnlimited
+        LastLengthUnlimited
+        LengthOf2To36Taken
+        LargestLengthRefused
+        CountsDifferTaken
+        MoreStartsTaken
+        MoreLengthsTaken
+        CountsDifferIs13
+        NoRunsTaken
+        GivenCountUnlimited
+        ThousandGivenRefused
+        ThousandAndOneGivenTaken
+        ThirtyTwoGivenAtMost
+        JoinedRunsLimited
+        EmptyRunWritten
+        EmptyRunLeftOut
+        LengthZeroIs12
+        StartUnjudged
+        StartOnePageEarlyTaken
+        OverlapWritten
+        OverlapJoined
+        RunsSorted
+        TouchingRefused
+        GivenEndUnjudged
+        GivenEndOnePastTopTaken
+        GivenEndAtTopRefused
+        WholeSpaceWritten
+        NearlyWholeSpaceRefused
+        WholeSpaceIs12
+        ThirteenBeforeTwelve
+        FaultsRunByRun
+        SeventeenBeforeTwelve
+        SeventeenBeforeThirteen
+        TouchingWrittenApart
+        TwoJoinedAtMost
+        PageApartJoined
+        JoinedLengthOfFirst
+        JoinedLengthOfLast
+        JoinedCountedTwice
+        RunAtZeroUncounted
+        CountOfLastByte
+        CountBeforeDirectory
+        EditionTwoWritten
+        EditionLeftOut
+        LastRunLeftOut
+        StartWrittenForGap
+        GapFromStartBefore
+        LengthBeforeGap
+        EndWrittenForLength
+        SixthGroupLost
+        NeedlessGroupWritten
+        HighestGroupFirstWritten
+        SheetRoomUnjudged
+        SheetRoomExactRefused
+        SheetRoomShortByOneTaken
+        SheetRoomOfRunsApart
+        SheetRoomForLongest
+        SheetWrittenBeforeJudging
+        SheetWrittenBeforeRoom
+        SheetLengthOnRefusal
+        SheetLengthOfBuffer
+        SheetClearsRest
+        ReadBackWithoutGaps
+        ReadBackLimitOneTooLow
+        ReadBackTopRefused
+    ;
+
     /// The faults in resolving an address, handing out its page and reading bytes.
     WALK_SLIPS:
         CanonicalBeforeSheet
