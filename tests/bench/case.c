@@ -104,6 +104,14 @@ void make_walk_case(struct bench_case *c, uint8_t *image, size_t run_count) {
     make_list(c, map_pages(c, free_pages));
 }
 
+void make_runs_apart(uint64_t *starts, uint64_t *lengths, size_t count) {
+    for (size_t i = 0, end = 0; i < count; i++) {
+        starts[i] = end + 1 + (next_random() & ((1 << next_random() % 22) - 1));
+        lengths[i] = 1 + (next_random() & ((1 << next_random() % 22) - 1));
+        end = starts[i] + lengths[i];
+    }
+}
+
 /* Headers one block after the other, each with the size of the one before, type 1 and a tag of letters. */
 static void lay_pool(struct bench_case *c, uint64_t page) {
     for (uint64_t place = 0, previous = 0, size; place < UNITS; place += size, previous = size) {

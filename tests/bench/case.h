@@ -32,6 +32,9 @@ uint64_t next_random(void);
  * kernel space. `image` has room for WALK_IMAGE_BYTES. */
 void make_walk_case(struct bench_case *c, uint8_t *image, size_t run_count);
 
+/* Runs that do not touch, with gaps and lengths of up to 2^21 pages. */
+void make_runs_apart(uint64_t *starts, uint64_t *lengths, size_t count);
+
 /* What an image has in it that is searched; none has a processor block. */
 enum filling {
     ZEROS,

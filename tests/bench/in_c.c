@@ -14,6 +14,7 @@ enum {
     TRAILING_BYTES = 14,
     IMAGE_LENGTH_DIFFERS = 15,
     PAGEFILE_NOT_WHOLE_PAGES = 16,
+    SHEET_BUFFER_SHORT = 17,
     NOT_CANONICAL = 20,
     UPPER_ENTRY_NOT_VALID = 21,
     REGION_NEEDED = 22,
@@ -265,6 +266,54 @@ glint_written c_map(const uint8_t *sheet, size_t sheet_length, const uint8_t *im
     size_t length = map_pass(&w, start, pages, out, 0);
     if (length > out_length) return (glint_written){MAP_BUFFER_SHORT, 0};
     map_pass(&w, start, pages, out, out_length);
+    return (glint_written){0, length};
+}
+
+/* ---- writing sheets */
+
+/* Runs that touch count as one; 0 if one of them is wrong. */
+static uint64_t count_joined(const uint64_t *starts, const uint64_t *lengths, size_t given) {
+    uint64_t count = 0, first = 0, end = 0, top = (uint64_t)1 << 36;
+    for (size_t i = 0; i < given; i++) {
+        if (lengths[i] == 0 || starts[i] < end || starts[i] + lengths[i] > top) return 0;
+        if (i == 0 || starts[i] != end) {
+            count++;
+            first = starts[i];
+        }
+        end = starts[i] + lengths[i];
+        if (end - first == top) return 0;
+    }
+    return count;
+}
+
+/* Writes what fits, and hands back the length of the whole sheet. */
+static size_t sheet_pass(uint64_t directory, const uint64_t *starts, const uint64_t *lengths, size_t given, uint64_t count,
+                         uint8_t *out, size_t size) {
+    uint64_t end = 0;
+    size_t at = put_number(out, size, 0, 1);
+    at = put_number(out, size, at, directory);
+    at = put_number(out, size, at, count);
+    for (size_t i = 0; i < given;) {
+        uint64_t first = starts[i], before = end;
+        for (end = first; i < given && starts[i] == end; i++) end += lengths[i];
+        at = put_number(out, size, at, first - before);
+        at = put_number(out, size, at, end - first);
+    }
+    return at;
+}
+
+glint_written c_write_sheet(uint64_t directory, const uint64_t *starts, size_t starts_length, const uint64_t *lengths,
+                            size_t lengths_length, uint8_t *out, size_t out_length) {
+    uint64_t all = directory;
+    if (starts_length != lengths_length || starts_length < 1 || starts_length > GLINT_SHEET_RUNS)
+        return (glint_written){OUT_OF_LIMITS, 0};
+    for (size_t i = 0; i < starts_length; i++) all |= starts[i] | lengths[i];
+    if (all >> 36) return (glint_written){OUT_OF_LIMITS, 0};
+    uint64_t count = count_joined(starts, lengths, starts_length);
+    if (count == 0) return (glint_written){BAD_RUN, 0};
+    size_t length = sheet_pass(directory, starts, lengths, starts_length, count, out, 0);
+    if (length > out_length) return (glint_written){SHEET_BUFFER_SHORT, 0};
+    sheet_pass(directory, starts, lengths, starts_length, count, out, out_length);
     return (glint_written){0, length};
 }
 

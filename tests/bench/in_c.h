@@ -23,6 +23,8 @@ glint_bytes c_read(const uint8_t *sheet, size_t sheet_length, const uint8_t *ima
 glint_written c_map(const uint8_t *sheet, size_t sheet_length, const uint8_t *image, size_t image_length,
                     const uint8_t *pagefile, size_t pagefile_length, uint64_t start, uint64_t pages,
                     uint8_t *out, size_t out_length);
+glint_written c_write_sheet(uint64_t directory, const uint64_t *starts, size_t starts_length, const uint64_t *lengths,
+                            size_t lengths_length, uint8_t *out, size_t out_length);
 glint_answer c_processor_block(const uint8_t *sheet, size_t sheet_length, const uint8_t *image, size_t image_length,
                                const uint8_t *pagefile, size_t pagefile_length, uint64_t from);
 glint_written c_process_list(const uint8_t *sheet, size_t sheet_length, const uint8_t *image, size_t image_length,

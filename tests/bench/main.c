@@ -7,7 +7,7 @@
 #include "case.h"
 #include "in_c.h"
 
-enum { ADDRESSES = 1 << 16, SMALL_READS = 1 << 12, LARGE_READS = 1 << 8, SMALL = 64, LARGE = 1 << 16, LISTS = 16 };
+enum { ADDRESSES = 1 << 16, SMALL_READS = 1 << 12, LARGE_READS = 1 << 8, SMALL = 64, LARGE = 1 << 16, LISTS = 16, SHEETS = 1 << 10 };
 enum { WALK_TURNS = 15, SEARCH_TURNS = 7 };
 
 #define OUT_BYTES ((size_t)16 << 20)
@@ -19,18 +19,21 @@ struct calls {
     __typeof__(glint_resolve) *resolve;
     __typeof__(glint_read) *read;
     __typeof__(glint_map) *map;
+    __typeof__(glint_write_sheet) *write_sheet;
     __typeof__(glint_processor_block) *processor_block;
     __typeof__(glint_process_list) *process_list;
     __typeof__(glint_pool_headers) *pool_headers;
 };
 
-static const struct calls exported = {bench_walk_pages, bench_walk_one,        glint_resolve,      glint_read,
-                                      glint_map,        glint_processor_block, glint_process_list, glint_pool_headers};
-static const struct calls in_c = {c_walk_pages, c_walk_one,        c_resolve,      c_read,
-                                  c_map,        c_processor_block, c_process_list, c_pool_headers};
+static const struct calls exported = {
+    bench_walk_pages,  bench_walk_one,        glint_resolve,      glint_read,        glint_map,
+    glint_write_sheet, glint_processor_block, glint_process_list, glint_pool_headers};
+static const struct calls in_c = {c_walk_pages,  c_walk_one,        c_resolve,      c_read,        c_map,
+                                  c_write_sheet, c_processor_block, c_process_list, c_pool_headers};
 
 static const uint8_t no_pagefile[1];
 static uint64_t random_addresses[ADDRESSES];
+static uint64_t starts[GLINT_SHEET_RUNS], lengths[GLINT_SHEET_RUNS];
 static uint64_t unexpected; /* answers of another number than the work has */
 
 #define CASE(c) (c)->sheet, (c)->sheet_length, (c)->image, (c)->image_length, no_pagefile, 0
@@ -100,6 +103,16 @@ static uint64_t map_all(const struct calls *call, const struct bench_case *c, ui
     return map.length;
 }
 
+static uint64_t write_sheets(const struct calls *call, const struct bench_case *c, uint8_t *out) {
+    uint64_t sum = 0;
+    for (uint64_t i = 0; i < SHEETS; i++) {
+        glint_written sheet = call->write_sheet(i, starts, c->run_count, lengths, c->run_count, out, OUT_BYTES);
+        unexpected += sheet.number != 0;
+        sum += sheet.length;
+    }
+    return sum;
+}
+
 static uint64_t list_nodes(const struct calls *call, const struct bench_case *c, uint8_t *out) {
     uint64_t sum = 0;
     for (int i = 0; i < LISTS; i++) {
@@ -156,6 +169,8 @@ static const struct work walk_works[] = {
     {"map of 2^20 pages, a page", MAPPED_PAGES, map_all, NULL, NULL},
     {"process list of 4,096 nodes, a node", (double)LISTS * LIST_NODES, list_nodes, NULL, NULL},
 };
+
+static const struct work write_work = {"sheet written, a run", (double)SHEETS * GLINT_SHEET_RUNS, write_sheets, NULL, NULL};
 
 enum { SEARCHED_PAGES = SEARCH_IMAGE_BYTES / PAGE_BYTES };
 
@@ -227,6 +242,9 @@ int main(void) {
         for (int i = 0; i < ADDRESSES; i++) random_addresses[i] = next_random() % ((uint64_t)MAPPED_PAGES * PAGE_BYTES);
         for (size_t i = 0; i < sizeof walk_works / sizeof *walk_works; i++) measure(&walk_works[i], &c, WALK_TURNS);
     }
+    c.run_count = GLINT_SHEET_RUNS;
+    make_runs_apart(starts, lengths, c.run_count);
+    measure(&write_work, &c, WALK_TURNS);
     for (size_t i = 0; i < sizeof searches / sizeof *searches; i++) {
         make_search_case(&c, image, searches[i].filling);
         measure(&searches[i].work, &c, SEARCH_TURNS);
