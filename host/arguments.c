@@ -7,10 +7,11 @@
 
 const struct option options[] = {
     {OUTPUT, "-o",
-     "  -o FILE        page (one address), read, map: raw bytes into FILE, which is made whole or not at all; with -o -\n"
-     "                 they go to standard output, and the report to standard error\n"},
+     "  -o FILE        page (one address), read, map, sheet: raw bytes into FILE, which is made whole or not at all; with\n"
+     "                 -o - they go to standard output, and the report to standard error\n"},
     {NO_PAGEFILE, "--no-pagefile", "  --no-pagefile  the case has no pagefile\n"},
     {ALL, "--all", "  --all          processor-block: every block from FROM on\n"},
+    {PAGES, "--pages", "  --pages        sheet: DIRECTORY is a page, each RANGE is START+LENGTH in pages of 4,096 bytes\n"},
     {JSON, "--json", "  --json         one JSON document; addresses, offsets and lengths are strings in hex\n"},
     {HELP, "--help", "  --help         this text, or what it says of a verb; so does -h\n"},
     {HELP, "-h", ""},

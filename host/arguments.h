@@ -12,6 +12,7 @@ enum {
     JSON = 8,
     HELP = 16,
     VERSION = 32,
+    PAGES = 64,
     OPTIONS_OF_EVERY_VERB = JSON | HELP | VERSION
 };
 

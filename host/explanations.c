@@ -4,8 +4,8 @@
 
 static const char *const explanations[] = {
     [GLINT_DONE] =
-        "The read, the map or the list is there as a whole, with its length beside it. Nothing in it was guessed: had a byte "
-        "of it not been found, all of it would have been refused.",
+        "The read, the map, the list or the sheet is there as a whole, with its length beside it. Nothing in it was guessed: "
+        "had a byte of it not been found, all of it would have been refused.",
     [GLINT_IN_IMAGE] =
         "The page tables lead to a page of physical memory that is in one of the sheet's runs; the offset is that of the "
         "addressed byte in the image file. For processor-block it is the offset of the block. The verbs page and read show "
@@ -29,10 +29,13 @@ static const char *const explanations[] = {
     [GLINT_OUT_OF_LIMITS] =
         "The edition is not 1, or a number is outside its limits: each is below 2^36, a sheet has 1 to 1,000 runs, and a map 1 to "
         "1,048,576 pages in one half of the addresses. A file that is no sheet or no map is mostly refused so: see first that "
-        "the files stand in the order SHEET IMAGE PAGEFILE.",
+        "the files stand in the order SHEET IMAGE PAGEFILE. The verb sheet refuses so a number of 2^36 pages or more, and no "
+        "ranges or more than 1,000 of them.",
     [GLINT_BAD_RUN] =
-        "A run of the sheet has no pages, has a gap of 0 although it is not the first, or ends past page 2^36. A gap counts "
-        "from the end of the run before, that of the first run from page 0. Leave empty runs out, and join runs that touch.",
+        "A run of the sheet has no pages, has a gap of 0 although it is not the first, or ends past page 2^36; a gap counts "
+        "from the end of the run before, that of the first run from page 0. The verb sheet refuses so a range that has no "
+        "pages, starts before the end of the one before it or ends past page 2^36, and ranges that are all 2^36 pages "
+        "together. Leave empty ranges out, and give the others in ascending order; sheet joins those that touch.",
     [GLINT_TRAILING_BYTES] =
         "Bytes follow the last field of the sheet or the map. The run count or page count is too small for what stands behind "
         "it, or something was added to the file, such as the end of a line by an editor. Mend the count, or cut off what was "
@@ -44,6 +47,9 @@ static const char *const explanations[] = {
     [GLINT_PAGEFILE_NOT_WHOLE_PAGES] =
         "The length of the pagefile is not a multiple of 4,096, so it is not the whole file. Copy it again. Without it, "
         "--no-pagefile still answers for all that is in the image, and refuses what is in the pagefile with 27.",
+    [GLINT_SHEET_BUFFER_SHORT] =
+        "The sheet is longer than the buffer that was lent for it, and nothing was written. This program lends enough for "
+        "every sheet; another that calls glint_write_sheet does so with GLINT_SHEET_BYTES bytes.",
 
     [GLINT_NOT_CANONICAL] =
         "Bits 47 to 63 of the address are not all equal, so the processor takes it for no address; or a read goes on past the "

@@ -7,7 +7,7 @@
 #include <string.h>
 #include <unistd.h>
 
-enum { DIGITS_OF_64_BITS = 16, DIGITS_BEHIND_BACKQUOTE = 8, LINE_ROOM = 128 };
+enum { DIGITS_OF_64_BITS = 16, DIGITS_BEHIND_BACKQUOTE = 8 };
 
 static const char no_number[] = "no number in hex (0x..) or decimal of 64 bits";
 static const char unclear_number[] = "hex or decimal? Write hex as 0x.., decimal without 0 in front and not with 16 digits";
@@ -100,8 +100,7 @@ static bool is_blank(char c)
     return c == ' ' || c == '\t' || c == '\r';
 }
 
-/* A line without its blanks at either end, those within as one; false at the end of input. What fills the room is cut. */
-static bool read_line(char text[LINE_ROOM], size_t *length)
+bool read_line(char text[LINE_ROOM], size_t *length)
 {
     size_t count = 0;
     bool any = false, blank_before = false;

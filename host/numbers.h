@@ -11,6 +11,12 @@
  * could be meant as hex or as decimal, since it begins with 0 or has 16 digits, is wrong. */
 const char *parse_number(const char *text, size_t length, uint64_t *number);
 
+enum { LINE_ROOM = 128 };
+
+/* Reads a line of standard input without its blanks at either end, those within as one; false at the end of input. What
+ * fills the room is cut, and is no number. */
+bool read_line(char text[LINE_ROOM], size_t *length);
+
 /* Addresses of the command line or, if it has none, of standard input, one to a line. */
 struct addresses {
     const uint64_t *given;

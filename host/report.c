@@ -291,6 +291,19 @@ void begin_number(uint64_t number)
     line_open = true;
 }
 
+void begin_value(const char *name, uint64_t value)
+{
+    if (json) {
+        put_comma();
+        open_json('{');
+        put_json_hex(name, value);
+        return;
+    }
+    close_line();
+    printf("0x%016" PRIX64, value);
+    line_open = true;
+}
+
 void begin_range(uint64_t start, uint64_t last)
 {
     if (json) {

@@ -24,8 +24,9 @@ void add_block(uint64_t self, uint64_t directory_word);
 void add_nodes(const uint64_t *nodes, uint64_t count);
 void end_item(void);
 
-/* Items of other forms: the number alone, and a range of physical memory, whose last byte is `last`. */
+/* Items of other forms: the number alone, a value alone, and a range of physical memory, whose last byte is `last`. */
 void begin_number(uint64_t number);
+void begin_value(const char *name, uint64_t value);
 void begin_range(uint64_t start, uint64_t last);
 
 /* A value in hex and a count, by the name in JSON and in words; a count's words are those of one. */

@@ -4,10 +4,18 @@
 #include "case_verb.h"
 #include "fail.h"
 #include "pool_verb.h"
+#include "sheet_verb.h"
 
 #include <string.h>
 
 const struct verb verbs[] = {
+    {"sheet", "DIRECTORY [RANGE...]", "the case sheet of ranges of physical memory",
+     "DIRECTORY is the physical address of the top page table, CR3 or the DTB of a process. A RANGE is START+LENGTH or\n"
+     "START-END, in bytes and of whole pages; END is the last byte or the byte behind it. Each range starts at or behind\n"
+     "the end of the one before; those that touch are joined. Shown are the sheet's length, what was given, in bytes and\n"
+     "in pages, the image length that the ranges ask for, and the sheet's bytes.\n"
+     "With [RANGE...] left out, ranges are read from standard input, one to a line; blank lines are skipped.\n",
+     0, 1, ANY_RANGES, OUTPUT | PAGES, sheet_verb},
     {"case", "CASE", "the directory page, the runs and the lengths of a case",
      "Shown are the runs of physical memory with their places in the image, and the image length that the sheet asks for\n"
      "beside the one that the file has; or the case's fault.\n",
@@ -59,4 +67,9 @@ const struct verb *verb_named(const char *name)
 bool takes_addresses(const struct verb *verb)
 {
     return verb->files > 0 && verb->most_numbers == ANY_COUNT;
+}
+
+bool takes_ranges(const struct verb *verb)
+{
+    return verb->most_numbers == ANY_RANGES;
 }

@@ -11,8 +11,10 @@ struct command {
     char *files[3];
     uint64_t *numbers;
     size_t number_count;
+    char **words;              /* the operands behind the files, as they were written */
+    size_t word_count;
     const char *output;
-    bool all;
+    bool all, in_pages;
 };
 
 int resolve_verb(const struct command *command);

@@ -17,6 +17,7 @@ RETURNS = {
     "glint_case": 3,
     "glint_image_length": 2,
     "glint_pool_headers": 2,
+    "glint_write_sheet": 2,
 }
 
 
@@ -86,3 +87,11 @@ class Library:
         room = (U64 * (len(image) // 8))()
         number, length = self.call("glint_pool_headers", [image], room, SIZE(len(room)))
         return number, list(room[:length])
+
+    def write_sheet(self, directory, runs):
+        """Number and bytes; the runs as (first page, pages)."""
+        starts, lengths = ((U64 * len(runs))(*numbers) for numbers in (zip(*runs) if runs else ((), ())))
+        room = (ctypes.c_uint8 * 12009)()
+        lists = slices(starts, lengths)
+        number, length = self.call("glint_write_sheet", [], directory, *lists, room, SIZE(len(room)))
+        return number, bytes(room[:length])

@@ -10,9 +10,10 @@ from expected import REFUSALS, place
 from library import Library
 from program import ANSWERED, FAILED, REFUSED, run
 
-VERBS = ("case", "resolve", "page", "read", "map", "lookup", "processor-block", "list", "pool", "explain", "help")
-OPTIONS = ("-o", "--json", "--no-pagefile", "--all", "--", "-h", "--help", "--version", "-", "-oout", "--json=1")
+VERBS = ("sheet", "case", "resolve", "page", "read", "map", "lookup", "processor-block", "list", "pool", "explain", "help")
+OPTIONS = ("-o", "--json", "--no-pagefile", "--all", "--pages", "--", "-h", "--help", "--version", "-", "-oout", "--json=1")
 NUMBERS = ("0", "1", "0x", "-1", "00", "0x1000", "4096", "18446744073709551615", "18446744073709551616", "fffff8a0`02bd2ed8")
+RANGES = ("0x1000+0x9E000", "0x1000-0x9EFFF", "4096-8192", "1+1", "0+0", "+", "-", "0x1000+", "0x1000-0xFFF", "0-0xFFFFFFFFFFFFFFFF")
 
 # The refusals of a case or a map as a whole.
 WHOLE_REFUSALS = (*range(10, 17), 43)
@@ -58,6 +59,7 @@ class Misuse:
                 self.chance.choice(VERBS),
                 self.chance.choice(OPTIONS),
                 self.chance.choice(NUMBERS),
+                self.chance.choice(RANGES),
                 self.written(self.number()),
                 os.fsdecode(self.junk()),
                 "",
@@ -69,7 +71,7 @@ class Misuse:
         if self.chance.randrange(8) == 0:
             return [self.word() for _ in range(self.chance.randrange(8))]
         verb = self.chance.choice(VERBS)
-        files = [] if verb in ("explain", "help") else self.paths[3:] if verb == "lookup" else self.paths[:3]
+        files = [] if verb in ("sheet", "explain", "help") else self.paths[3:] if verb == "lookup" else self.paths[:3]
         counts = {"read": (2,), "map": (2,), "list": (1,), "processor-block": (0, 1), "help": (0,)}
         numbers = self.chance.choice(counts.get(verb, (0, 1, 2, 5)))
         options = self.chance.choice(([], ["--json"]))

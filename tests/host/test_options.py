@@ -7,6 +7,7 @@ from program import ANSWERED, FAILED, HostTest, run
 
 # The verbs with the options that not every verb takes.
 VERBS = {
+    "sheet": {"--pages", "-o"},
     "resolve": {"--no-pagefile"},
     "page": {"--no-pagefile", "-o"},
     "read": {"--no-pagefile", "-o"},

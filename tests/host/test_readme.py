@@ -4,7 +4,7 @@ import subprocess
 
 from cases import MACHINE_IMAGE, MACHINE_RUNS, PAGE, VALID, Memory, sheet_of
 from library import Library
-from program import BUILT, ROOT, HostTest, Program
+from program import ANSWERED, BUILT, ROOT, HostTest, Program, run
 
 README = (ROOT / "README.md").read_text()
 MANUAL = (ROOT / "host" / "glintloom.1").read_text()
@@ -49,9 +49,11 @@ class ByteByByte(HostTest):
             self.assertIn(f"(0x9E + 0x3FEF0) * 4,096 = 0x{MACHINE_IMAGE:X} bytes", text)
 
     def test_command_that_writes_the_sheet(self):
-        command = re.search(r"^    (printf .* >sheet)$", README, re.M)[1]
-        subprocess.run(["bash", "-c", command], cwd=self.directory, check=True)
-        self.assertEqual((self.directory / "sheet").read_bytes(), sheet_of(DIRECTORY_PAGE, MACHINE_RUNS))
+        for text, command in ((README, r"^    glintloom (sheet .* -o sheet)$"), (MANUAL, r"^glintloom (sheet 0x.* \\-o sheet)$")):
+            words = re.search(command, text, re.M)[1].replace("\\", "").split()
+            self.assertEqual(run(*words, cwd=self.directory).returncode, ANSWERED)
+            self.assertEqual((self.directory / "sheet").read_bytes(), sheet_of(DIRECTORY_PAGE, MACHINE_RUNS))
+            (self.directory / "sheet").unlink()
 
     def test_map(self):
         """The map call makes these bytes of a case with two pages at 0xB10000 that are image pages 5 and 6."""

@@ -53,6 +53,7 @@ class WrongUse(HostTest):
         self.fails(["list", "--all", *self.case, "0"], "list takes no --all")
         self.fails(["help", "--all"], "help takes no --all")
         self.fails(["pool", "--no-pagefile", self.case[1]], "pool takes no --no-pagefile")
+        self.fails(["map", "--pages", *self.case, "0", "1"], "map takes no --pages")
 
     def test_counts_of_operands(self):
         for words in (
@@ -67,6 +68,7 @@ class WrongUse(HostTest):
             ["list", *self.case],
             ["lookup"],
             ["pool"],
+            ["sheet"],
         ):
             self.fails(words, "too few operands")
         for words in (
@@ -190,6 +192,7 @@ class StandardOutput(HostTest):
             ["processor-block", *self.case],
             ["list", *self.case, "0"],
             ["pool", self.case[1]],
+            ["sheet", "0x1000", "0x1000+0x1000"],
             ["explain"],
             ["help"],
         )
@@ -323,6 +326,6 @@ class Progress(HostTest):
 class ManualPage(HostTest):
     def test_names_every_verb_and_option(self):
         text = (ROOT / "host" / "glintloom.1").read_text()
-        options = ("--json", "--no-pagefile", "--all", "-o", "--help", "--version")
-        for word in (*CASE_VERBS, "lookup", "pool", "explain", "help", *options):
+        options = ("--json", "--no-pagefile", "--all", "--pages", "-o", "--help", "--version")
+        for word in (*CASE_VERBS, "sheet", "lookup", "pool", "explain", "help", *options):
             self.assertIn(word.replace("-", "\\-"), text)

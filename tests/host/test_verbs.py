@@ -339,7 +339,7 @@ class ExplainAndHelp(HostTest):
         self.assertEqual(len(texts), len(WORDS))
 
     def test_numbers_that_no_answer_has(self):
-        for number in (4, 9, 17, 30, 42, 46, 54, 56, 99, 2**32 + 22, 2**64 - 1):
+        for number in (4, 9, 18, 30, 42, 46, 54, 56, 99, 2**32 + 22, 2**64 - 1):
             self.fails(["explain", number], f"no answer has the number {number}")
         self.fails(["explain", 22, 99], "99")
 
@@ -347,7 +347,8 @@ class ExplainAndHelp(HostTest):
         for word in ("help", "--help", "-h"):
             shown = run(word)
             self.assertEqual((shown.returncode, shown.stderr), (ANSWERED, b""))
-            for verb in ("resolve", "page", "read", "map", "lookup", "processor-block", "list", "pool", "explain", "help"):
+            verbs = ("sheet", "resolve", "page", "read", "map", "lookup", "processor-block", "list", "pool", "explain", "help")
+            for verb in verbs:
                 self.assertIn(f"\nglintloom {verb} ", shown.stdout.decode())
             self.assertIn("\nExit status: 0 answered; 1 refused", shown.stdout.decode())
 
