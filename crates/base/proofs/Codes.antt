@@ -1,4 +1,4 @@
--- The codes as two stretches of numbers, as `is_code` tests them; and a code is a small number.
+-- The codes as stretches of numbers, as `is_code` tests them; and a code is a small number.
 use mathlib.Core.Path.{_≡_, refl, sym, _∙_}
 use mathlib.Core.Bool.{Bool, true, false, _&&_, _||_}
 use mathlib.Core.List.{List, [], _∷_, _++_}
@@ -38,33 +38,41 @@ member-stretch c low (suc n) = rw (member-stretch c (suc low) n) (go (test c low
     go (above h) (below u) (above t) =
         rw (ne-eqb c low (λ e. omega (arith, e)), le-leb (suc low) c (omega arith), le-ltb c (suc low + n) t, le-leb low c h, le-ltb c (low + suc n) (omega arith))
 
--- 1 to 3, 21 to 29
-two-stretches : (c : ℕ) → isCode c ≡ ((leb 1 c && ltb c 4) || (leb 21 c && ltb c 30))
+-- 1 to 3, 21 to 29, 31
+stretches : (c : ℕ) → isCode c ≡ ((leb 1 c && ltb c 4) || ((leb 21 c && ltb c 30) || (eqb c 31 || false)))
 unfolding isCode
-two-stretches c = member-append c (stretch 1 3) (stretch 21 9) ∙ rw (member-stretch c 1 3, member-stretch c 21 9)
+stretches c =
+    member-append c (stretch 1 3) (stretch 21 9 ++ 31 ∷ [])
+    ∙ rw (member-append c (stretch 21 9) (31 ∷ []), member-stretch c 1 3, member-stretch c 21 9)
 
 module _ (c : ℕ) where
   pub code-zero : c < 1 → false ≡ isCode c
-  code-zero h = sym (two-stretches c ∙ rw (lt-leb 1 c h, lt-leb 21 c (omega arith)))
+  code-zero h = sym (stretches c ∙ rw (lt-leb 1 c h, lt-leb 21 c (omega arith), ne-eqb c 31 (λ e. omega (arith, e))))
 
   pub code-found : 1 ≤ c → c ≤ 3 → true ≡ isCode c
-  code-found h k = sym (two-stretches c ∙ rw (le-leb 1 c h, lt-ltb c 4 (omega arith)))
+  code-found h k = sym (stretches c ∙ rw (le-leb 1 c h, lt-ltb c 4 (omega arith)))
 
   pub code-between : 3 < c → c < 21 → false ≡ isCode c
-  code-between h k = sym (two-stretches c ∙ rw (le-leb 1 c (omega arith), le-ltb c 4 (omega arith), lt-leb 21 c k))
+  code-between h k =
+      sym (stretches c ∙ rw (le-leb 1 c (omega arith), le-ltb c 4 (omega arith), lt-leb 21 c k, ne-eqb c 31 (λ e. omega (arith, e))))
 
-  pub code-refused : 21 ≤ c → leb c 29 ≡ isCode c
-  code-refused h = sym (two-stretches c ∙ rw (le-leb 1 c (omega arith), le-ltb c 4 (omega arith), le-leb 21 c h) (go (test c 30)))
-    where
-      go : Test c 30 → ltb c 30 ≡ leb c 29
-      go (below l) = rw (lt-ltb c 30 l, le-leb c 29 (omega arith))
-      go (above l) = rw (le-ltb c 30 l, lt-leb c 29 (omega arith))
+  pub code-refused : 21 ≤ c → c ≤ 29 → true ≡ isCode c
+  code-refused h k = sym (stretches c ∙ rw (le-leb 1 c (omega arith), le-ltb c 4 (omega arith), le-leb 21 c h, lt-ltb c 30 (omega arith)))
 
-  pub code-small : isCode c ≡ true → c < 30
-  code-small h = go (test c 30)
+  pub code-single : 29 < c → eqb c 31 ≡ isCode c
+  code-single h =
+      sym (stretches c ∙ rw (le-leb 1 c (omega arith), le-ltb c 4 (omega arith), le-leb 21 c (omega arith), le-ltb c 30 (omega arith)) (go (eqb c 31)))
     where
-      go : Test c 30 → c < 30
+      go : (b : Bool) → (b || false) ≡ b
+      go true = refl
+      go false = refl
+
+  -- it takes one group
+  pub code-small : isCode c ≡ true → c < 64
+  code-small h = go (test c 64)
+    where
+      go : Test c 64 → c < 64
       go (below l) = l
       go (above l) =
-          let no : false ≡ true = sym (sym (code-refused (omega arith)) ∙ lt-leb c 29 (omega arith)) ∙ h in
+          let no : false ≡ true = sym (ne-eqb c 31 (λ e. omega (arith, e))) ∙ code-single (omega arith) ∙ h in
           absurd (let z : _≡_ {A = ℕ} 0 1 = cc in omega arith)

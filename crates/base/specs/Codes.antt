@@ -14,6 +14,7 @@ use Rattle.base.specs.declared.Refusal.the-variants.{
   PastPagefile,
   PrototypeChainTooLong,
   PrototypeUnaligned,
+  PageInStore,
 }
 
 -- image, pagefile, page of zeros, and each refusal that a canonical address can get
@@ -31,6 +32,7 @@ codes =
     ∷ refusalNumber PastPagefile
     ∷ refusalNumber PrototypeChainTooLong
     ∷ refusalNumber PrototypeUnaligned
+    ∷ refusalNumber PageInStore
     ∷ []
 
 abbrev pub member : ℕ → List ℕ → Bool

@@ -8,9 +8,9 @@ use borrow.Author.Tests.{lt-ltb, eqb-true, eqb-false}
 use Rattle.base.specs.Notation.{if_then_else_, bits, bit}
 use Rattle.base.specs.Refusal.{refusalNumber}
 use Rattle.base.specs.Codes.{isCode}
-use Rattle.base.specs.declared.Refusal.the-variants.{FrameTooWide, FileBacked, OtherPagefile, UpperEntryNotValid}
+use Rattle.base.specs.declared.Refusal.the-variants.{FrameTooWide, FileBacked, OtherPagefile, PageInStore, UpperEntryNotValid}
 use Rattle.entry.specs.Addresses.{canonical, reachable}
-use Rattle.entry.specs.Entry.{valid, tooWide, frameOf, pagefilePageOf, largeOf, upperOf, validOf, transition, transitionOf, prototype, extended, softwareOf, leafOf, prototypeOf}
+use Rattle.entry.specs.Entry.{valid, tooWide, frameOf, pagefilePageOf, largeOf, upperOf, validOf, transition, transitionOf, prototype, extended, inStore, softwareOf, leafOf, prototypeOf}
 use Rattle.entry.specs.declared.PageSize.{PageSize}
 use Rattle.entry.specs.declared.PageSize.the-variants.{Page4K, Page2M, Page1G}
 use Rattle.entry.specs.declared.Level.{Level}
@@ -38,15 +38,16 @@ valid-coded e = go (tooWide e)
 
 software-coded : (e : ℕ) → EntryPlaceCoded (softwareOf e)
 unfolding isCode
-software-coded e = go (eqb (bits e 32 63) 0) (not (eqb (bits e 1 4) 0))
+software-coded e = go (eqb (bits e 32 63) 0) (inStore e) (not (eqb (bits e 1 4) 0))
   where
     small : bits e 32 63 < 2 ^ 32
     small = omega arith
 
-    go : (a b : Bool) → EntryPlaceCoded (if a then ZeroPage else if b then Refused OtherPagefile else InPagefile (pagefilePageOf e))
-    go true b = tt
-    go false true = refl
-    go false false = small
+    go : (a b c : Bool) → EntryPlaceCoded (if a then ZeroPage else if b then Refused PageInStore else if c then Refused OtherPagefile else InPagefile (pagefilePageOf e))
+    go true b c = tt
+    go false true c = refl
+    go false false true = refl
+    go false false false = small
 
 -- the entry from step 4
 pub prototype-coded : (e : ℕ) → EntryPlaceCoded (prototypeOf e)

@@ -1,5 +1,5 @@
 -- Each return cites the law for its stretch of numbers.
-use Rattle.base.proofs.Codes.{code-zero, code-found, code-between, code-refused}
+use Rattle.base.proofs.Codes.{code-zero, code-found, code-between, code-refused, code-single}
 use Rattle.base.proofs.is_code.Statement.{statement}
 use Rattle.base.proofs.is_code.Tie as tie
 
@@ -13,7 +13,10 @@ returns-3 : tie.Need-returns-3
 returns-3 c = code-between _ (c .before .if2 .left) (c .if3 .taken)
 
 returns-4 : tie.Need-returns-4
-returns-4 c = code-refused _ (c .if3 .left)
+returns-4 c = code-refused _ (c .before .if3 .left) (c .if4 .taken)
+
+returns-5 : tie.Need-returns-5
+returns-5 c = code-single _ (c .if4 .left)
 
 pub is-code-spec : {M : Type 1} → statement M
-is-code-spec = tie.close (tie.spec returns returns-2 returns-3 returns-4)
+is-code-spec = tie.close (tie.spec returns returns-2 returns-3 returns-4 returns-5)
