@@ -4,7 +4,7 @@
 #![allow(dead_code)]
 
 /// Every code that an extent can have: those of places, then refusals.
-pub const EXTENT_CODES: &[u64] = &[1, 2, 3, 21, 22, 23, 24, 25, 26, 27, 28, 29];
+pub const EXTENT_CODES: &[u64] = &[1, 2, 3, 21, 22, 23, 24, 25, 26, 27, 28, 29, 31];
 
 /// Where an address leads: the image, the pagefile, a page of zeros.
 pub const PLACES: &[u64] = &[1, 2, 3];
@@ -14,6 +14,9 @@ pub const PAGE_REFUSALS: &[u64] = match EXTENT_CODES {
     [1, 2, 3, refusals @ ..] => refusals,
     _ => panic!("places come first"),
 };
+
+/// The refusal of a page in the compressed store.
+pub const PAGE_IN_STORE: u64 = 31;
 
 /// Refusals of a case as a whole.
 pub const CASE_REFUSALS: &[u64] = &[10, 11, 12, 13, 14, 15, 16];

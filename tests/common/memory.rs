@@ -11,6 +11,7 @@ pub const VALID: u64 = 1;
 const LARGE: u64 = 1 << 7;
 const PROTOTYPE: u64 = 1 << 10;
 pub const TRANSITION: u64 = 1 << 11;
+const IN_STORE: u64 = 1 << 22;
 
 /// Bits 16-63 of a prototype entry that leaves its page to the region record.
 const VAD_PROTOTYPE: u64 = 0xFFFF_FFFF_0000;
@@ -251,7 +252,7 @@ impl Memory {
 
     /// An entry at the edge of a rule, at last level or as prototype entry.
     pub fn odd_entry(&mut self) -> u64 {
-        match self.random.below(16) {
+        match self.random.below(21) {
             0 | 1 => 0,
             2 => {
                 let outside = self.frame_outside();
@@ -270,7 +271,7 @@ impl Memory {
             8 | 9 => self.unaligned_prototype(),
             10 => self.random.next() & !VALID | PROTOTYPE,
             11 | 12 => self.past_pagefile(),
-            13 | 14 => {
+            13..=15 => {
                 let pagefile_page = self.any_pagefile_page();
                 let other_pagefile = match self.random.below(2) {
                     0 => 1 << (1 + self.random.below(4)),
@@ -278,6 +279,7 @@ impl Memory {
                 };
                 self.software(pagefile_page) | other_pagefile
             }
+            16..=19 => self.in_store(),
             _ => self.random.next(),
         }
     }
@@ -308,6 +310,12 @@ impl Memory {
             _ => pages.max(1),
         };
         self.software(page)
+    }
+
+    /// A page of the compressed store whatever its pagefile; without a page number, a page of zeros.
+    fn in_store(&mut self) -> u64 {
+        let pagefile_page = self.any_pagefile_page();
+        self.software(pagefile_page) | self.noise(0x1E) | IN_STORE
     }
 
     fn any_pagefile_page(&mut self) -> u64 {
@@ -366,8 +374,13 @@ impl Memory {
         address << 16 | self.noise(0xFBFE) | PROTOTYPE
     }
 
+    /// A software entry for a page that is not in the store; without a page number, bit 22 says nothing.
     pub fn software(&mut self, pagefile_page: u64) -> u64 {
-        pagefile_page << 32 | self.noise(0xFFFF_F3E0)
+        let store = match pagefile_page {
+            0 => IN_STORE,
+            _ => 0,
+        };
+        pagefile_page << 32 | self.noise(0xFFBF_F3E0 | store)
     }
 
     /// A page of the image, an unused one while there are any.

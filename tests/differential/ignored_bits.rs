@@ -19,10 +19,13 @@ const NOT_VALID: Bits = &[1..=63];
 const TRANSITION: Bits = &[1..=9, 48..=63];
 const PROTOTYPE: Bits = &[1..=9, 11..=15];
 const SUBSECTION: Bits = &[1..=9, 11..=63];
-const SOFTWARE: Bits = &[5..=9, 12..=31];
+const SOFTWARE: Bits = &[5..=9, 12..=21, 23..=31];
 
-/// Without a pagefile page, the pagefile's number says nothing.
+/// Without a pagefile page, the pagefile's number and bit 22 say nothing.
 const ZEROS: Bits = &[1..=9, 12..=31];
+
+/// In the compressed store, the pagefile's number and all but one bit of its page say nothing.
+const STORED: Bits = &[1..=9, 12..=21, 23..=31, 33..=63];
 
 pub fn groups() -> Vec<Group> {
     vec![
@@ -125,6 +128,7 @@ fn last_entries() -> Group {
         (named, PROTOTYPE, [1, 0x6123, 9], "prototype"),
         (vad, PROTOTYPE, [22, 0, 4], "VAD prototype"),
         (0x1_0000_0000, SOFTWARE, [2, 0x1123, 4], "pagefile"),
+        (0x1_0040_0000, STORED, [31, 0, 4], "compressed store"),
         // Each of the bits makes it other than 0, which would be 22.
         (0, ZEROS, [3, 0, 4], "page of zeros"),
     ] {
@@ -148,6 +152,7 @@ fn prototype_entries() -> Group {
         (0x10_5800, TRANSITION, [1, 0x5123, 9], "transition"),
         (0x400, SUBSECTION, [25, 0, 9], "subsection"),
         (0x1_0000_0000, SOFTWARE, [2, 0x1123, 9], "pagefile"),
+        (0x1_0040_0000, STORED, [31, 0, 9], "compressed store"),
         (0, ZEROS, [3, 0, 9], "page of zeros"),
     ] {
         for mask in masks(bits) {

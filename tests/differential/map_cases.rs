@@ -303,7 +303,7 @@ fn address_about(range: Range, random: &mut Xorshift) -> u64 {
     }
 }
 
-/// A map and its lookups that the paper states.
+/// A stated map and its lookups.
 pub struct Stated {
     pub start: u64,
     pub pages: u64,
@@ -334,4 +334,35 @@ pub const P2: Stated = Stated {
 /// Image pages 5 and 6, then an entry of 0.
 pub fn p2_files() -> CaseFiles {
     small_case(&[(0x3880, 0x6001), (0x3888, 0x7001), (0x3890, 0)])
+}
+
+/// Pagefile page 1, then pages 2 and 3 with bit 22 set, the last one by a prototype entry (02, order 5).
+pub const STORE: Stated = Stated {
+    start: 0xB1_0000,
+    pages: 3,
+    map: &[0x01, 0x90, 0x16, 0x03, 0x02, 0x01, 0x01, 0x1F, 0x02],
+    lookups: &[
+        (0xB1_0ABC, 2, 0x1ABC),
+        (0xB1_1000, 31, 0),
+        (0xB1_2FFF, 31, 0),
+        (0xB1_3000, 41, 0),
+        (0x8000_00B1_0000, 20, 0),
+    ],
+};
+
+/// The map of the same pages by the rules before: pages 1 to 3 of the pagefile.
+pub const STORE_BEFORE: &[u8] = &[0x01, 0x90, 0x16, 0x03, 0x02, 0x03, 0x01];
+
+pub fn store_files() -> CaseFiles {
+    let files = small_case(&[
+        (0x3880, 0x1_0000_0080),
+        (0x3888, 0x2_0040_0080),
+        (0x3890, 0x00B1_3008_0400),
+        (0x3898, 0x6001),
+        (0x5008, 0x3_0040_0080),
+    ]);
+    CaseFiles {
+        pagefile: vec![0; 4 * PAGE as usize],
+        ..files
+    }
 }

@@ -35,9 +35,12 @@ use common::codes::{CASE_REFUSALS, EXTENT_CODES, NOT_CANONICAL};
 use common::many_runs::ByRuns;
 use common::print::{hex, with_commas};
 use common::tally::{print_table, Tally};
-use map_cases::{each_question, each_question_about_runs, p2_files, Question, P2};
+use map_cases::{
+    each_question, each_question_about_runs, p2_files, store_files, Question, Stated, P2, STORE,
+    STORE_BEFORE,
+};
 use other_maps::each_short_map;
-use second::map::{lookup, map, read_map};
+use second::map::{lookup, map, map_bytes, read_map};
 use second::slip::{Slip, MAP_SLIPS};
 use second::walk::{self, Files};
 use std::collections::HashSet;
@@ -309,7 +312,9 @@ fn report(comparison: &Comparison) -> bool {
     reasons.extend(comparison.lookups.reasons(EXTENT_CODES));
     reasons.extend(comparison.lookups.reasons(OF_ADDRESS));
     reasons.extend(comparison.other_lookups.reasons(&lookup_numbers()));
-    judge_p2(&mut reasons);
+    judge_stated("P2", &P2, &p2_files(), &mut reasons);
+    judge_stated("order 5", &STORE, &store_files(), &mut reasons);
+    judge_rules_before(&mut reasons);
     reasons.iter().for_each(|reason| println!("{}", reason));
     if reasons.is_empty() {
         println!("maps: {} cases agree", with_commas(comparison.cases));
@@ -317,11 +322,10 @@ fn report(comparison: &Comparison) -> bool {
     reasons.is_empty()
 }
 
-/// Both readers against the map and the lookups that the paper states.
-fn judge_p2(reasons: &mut Vec<String>) {
-    let files = p2_files();
+/// Both readers against a stated map and its lookups.
+fn judge_stated(what: &str, stated: &Stated, files: &CaseFiles, reasons: &mut Vec<String>) {
     let files = files.lent();
-    let (start, pages, room) = (P2.start, P2.pages, P2.map.len());
+    let (start, pages, room) = (stated.start, stated.pages, stated.map.len());
     let mut buffers = [vec![0; room], vec![0; room]];
     let [their_buffer, our_buffer] = &mut buffers;
     let theirs = exports_map::map(
@@ -335,19 +339,52 @@ fn judge_p2(reasons: &mut Vec<String>) {
     let ours = map(files, start, pages, our_buffer, Slip::None);
     let answers = [[theirs.number, theirs.length], [ours.number, ours.length]];
     for (answer, buffer) in answers.iter().zip(&buffers) {
-        if *answer != [0, room as u64] || buffer != P2.map {
+        if *answer != [0, room as u64] || buffer != stated.map {
             let written = hex(buffer);
-            reasons.push(format!("P2: {} [{}]", answer_text(*answer), written));
+            reasons.push(format!("{}: {} [{}]", what, answer_text(*answer), written));
         }
     }
-    for (address, number, offset) in P2.lookups {
-        let theirs = exports_map::lookup(P2.map, *address);
-        let ours = lookup(P2.map, *address, Slip::None);
+    for (address, number, offset) in stated.lookups {
+        let theirs = exports_map::lookup(stated.map, *address);
+        let ours = lookup(stated.map, *address, Slip::None);
         for found in [[theirs.number, theirs.offset], [ours.number, ours.offset]] {
             if found != [*number, *offset] {
                 let found = answer_text(found);
-                reasons.push(format!("P2: 0x{:016X} gives {}", address, found));
+                reasons.push(format!("{}: 0x{:016X} gives {}", what, address, found));
             }
         }
     }
+}
+
+/// The second reader by the rules before order 5, with neither the entry's state nor code 31.
+fn judge_rules_before(reasons: &mut Vec<String>) {
+    let made = |stated: &Stated, files: &CaseFiles| {
+        let Stated { start, pages, .. } = *stated;
+        map_bytes(files.lent(), start, pages, Slip::StoreNotKnown)
+    };
+    let read = |stated: &Stated, address| {
+        let found = lookup(stated.map, address, Slip::CodeThirtyOneUnlisted);
+        [found.number, found.offset]
+    };
+    let mut judge = |holds: bool, what: &str| {
+        if !holds {
+            reasons.push(format!("rules before order 5: {}", what));
+        }
+    };
+    for (address, ..) in STORE.lookups {
+        let refused = read(&STORE, *address) == [43, 0];
+        judge(refused, "a map with code 31 is read");
+    }
+    for (address, number, offset) in P2.lookups {
+        let same = read(&P2, *address) == [*number, *offset];
+        judge(same, "a map without code 31 is read otherwise");
+    }
+    let same = made(&P2, &p2_files()).as_deref() == Ok(P2.map);
+    judge(same, "a map without such pages has other bytes");
+    let false_places = made(&STORE, &store_files()).as_deref() == Ok(STORE_BEFORE);
+    judge(false_places, "a map of such pages has no false places");
+    // No reader can tell that these places hold nothing of the page.
+    let found = lookup(STORE_BEFORE, 0xB1_2ABC, Slip::None);
+    let taken = [found.number, found.offset] == [2, 0x3ABC];
+    judge(taken, "a map made by them is not read now");
 }

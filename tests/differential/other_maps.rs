@@ -22,7 +22,7 @@ const BESIDE_CODES: [u64; 12] = [
     19,
     20,
     30,
-    31,
+    32,
     64,
     127,
     128,
@@ -34,7 +34,7 @@ const BESIDE_CODES: [u64; 12] = [
 const MOST_EXTENTS: usize = 64;
 
 /// No code, codes with and without a page, and the edges of groups.
-const CHOSEN_BYTES: [u8; 9] = [0x00, 0x01, 0x02, 0x03, 0x14, 0x15, 0x16, 0x7F, 0x80];
+const CHOSEN_BYTES: [u8; 10] = [0x00, 0x01, 0x02, 0x03, 0x14, 0x15, 0x16, 0x1F, 0x7F, 0x80];
 
 /// The longest string of chosen bytes.
 const MOST_CHOSEN: u32 = 5;
@@ -51,7 +51,7 @@ pub fn each_short_map(take: &mut dyn FnMut(&[u8])) {
     }
 }
 
-/// The digits of `which` in base 9 select the bytes.
+/// The digits of `which`, in the base of how many bytes there are, select them.
 fn chosen_bytes(start: &[u8], length: u32, mut which: usize) -> Vec<u8> {
     let mut map = start.to_vec();
     for _ in 0..length {

@@ -25,6 +25,7 @@ pub fn groups() -> Vec<Group> {
         refusals(),
         refusals_of_prototype_addresses(),
         prototype_chains(),
+        compressed_store(),
         pages_of_zeros(),
         directory_in_no_run(),
         runs_with_gaps(),
@@ -238,13 +239,14 @@ fn refusals() -> Group {
 
 /// The last-level entry of a prototype entry's page.
 #[rustfmt::skip]
-const INNER_REFUSALS: [(u64, Answer, &str); 7] = [
+const INNER_REFUSALS: [(u64, Answer, &str); 8] = [
     (0, [22, 0, 8], "its page's last-level entry is 0"),
     (0xFFFF_FFFF_0000_0420, [22, 0, 8], "its page's last-level entry is a VAD prototype"),
     (0x5_0001, [23, 0, 8], "its page is in no run"),
     (0x0001_0000_0010_5001, [24, 0, 8], "its page's frame is too wide"),
     (0x1_0000_0082, [26, 0, 8], "its page is in another pagefile"),
     (0x3_0000_0080, [27, 0, 8], "its page is past the pagefile's end"),
+    (0x1_0040_0080, [31, 0, 8], "its page is in the compressed store"),
     (naming(KERNEL + 0x1002), [29, 0, 8], "its page's prototype address is not a multiple of 8"),
 ];
 
@@ -312,6 +314,55 @@ fn prototype_chains() -> Group {
         what: "prototype chains",
         case: tables.case,
         stated: all_stated(&list),
+    }
+}
+
+/// Entries with bit 22 set, and their number at last level and at a prototype address (02, order 5).
+#[rustfmt::skip]
+const WITH_BIT_22: [(u64, u64, &str); 10] = [
+    (0x1_0040_0080, 31, "our pagefile has page 1, and it says nothing of this one"),
+    (0x4_0040_0080, 31, "P7's entry with bit 22: before 27"),
+    (0x1_0040_0082, 31, "pagefile 1: before 26"),
+    (0x4_0040_009E, 31, "every bit of the pagefile's number: before 26 and 27"),
+    (0xFFFF_FFFF_FFFF_F3FE, 31, "every bit but 0, 10 and 11"),
+    (0x40_0080, 3, "P8's entry with bit 22: the zero-page test is first"),
+    (0x40_0000, 3, "bit 22 alone"),
+    (0x40_001E, 3, "pagefile 15, and no page of it"),
+    (0x1_0050_5001, 23, "valid: the bit is of its frame, 0x100505"),
+    (0x1_0050_5800, 23, "transition: likewise"),
+];
+
+fn compressed_store() -> Group {
+    let mut tables = Tables::new();
+    let mut list = Vec::new();
+    for (entry, number, why) in WITH_BIT_22 {
+        let page = USER + tables.last(entry);
+        list.push(stated(page + 0x123, [number, 0, 4], why));
+        let page = USER + tables.behind_prototype(entry);
+        list.push(stated(page + 0x123, [number, 0, 9], why));
+    }
+    // Behind one, two and three prototype entries, and by prototype entries that lie in such pages.
+    let behind_one = KERNEL + tables.behind_prototype(0x10_6001);
+    tables.case.put(0x10_6048, 0x1_0040_0080);
+    tables.case.put(0x10_6050, 0x10_7001);
+    let behind_two = KERNEL + tables.last(naming(behind_one + 0x50));
+    tables.case.put(0x10_7058, 0x1_0040_0080);
+    let one = KERNEL + tables.behind_prototype(0x1_0040_0080);
+    let two = KERNEL + tables.last(naming(behind_one + 0x48));
+    let three = USER + tables.last(naming(behind_two + 0x58));
+    let in_one = USER + tables.last(naming(one + 0x60));
+    let in_two = USER + tables.last(naming(two + 0x60));
+    list.extend(all_stated(&[
+        (one, [31, 0, 9], "by one prototype entry"),
+        (two, [31, 0, 14], "by two"),
+        (three, [31, 0, 19], "by three"),
+        (in_one, [31, 0, 13], "passed up from a page behind one"),
+        (in_two, [31, 0, 18], "passed up from a page behind two"),
+    ]));
+    Group {
+        what: "pages in the compressed store",
+        case: tables.case,
+        stated: list,
     }
 }
 

@@ -101,9 +101,9 @@ fn lay_pages(memory: &mut Memory) -> Vec<u64> {
     }
     for _ in 0..how_many {
         let prototypes = match memory.random.below(16) {
-            0..=6 => 0,
-            7..=9 => 1,
-            10 | 11 => 2,
+            0..=5 => 0,
+            6..=8 => 1,
+            9..=11 => 2,
             12..=14 => 3,
             _ => 4,
         };
@@ -279,7 +279,8 @@ const DOCUMENT_002: &[(u64, u64)] = &[
     (0x0020_5058, 0x8000_0000_2318_E121),
 ];
 
-/// Tables of our own for address 0xB10000 (P5), and the entries of P7 to P9 and P12 behind it.
+/// Tables of our own for address 0xB10000 (P5), and the entries of P7 to P9 and P12 behind it; then those of P7 and
+/// P8 with bit 22 set, at last level and at prototype addresses.
 const EDGES: &[(u64, u64)] = &[
     (0x1000, 0x2001),
     (0x2000, 0x3001),
@@ -289,6 +290,14 @@ const EDGES: &[(u64, u64)] = &[
     (0x4890, 0),
     (0x4898, 0xFFFF_FFFF_0000_0C00),
     (0x48A0, 0xF8A0_02BD_2ED8_0C00),
+    (0x48A8, 0x4_0040_0080),
+    (0x48B0, 0x40_0080),
+    (0x48B8, 0x4_0040_009E),
+    (0x48C0, 0x00B1_A008_0400),
+    (0x48C8, 0x00B1_A010_0400),
+    (0x48D0, 0x5001),
+    (0x5008, 0x4_0040_0080),
+    (0x5010, 0x40_0080),
 ];
 
 const IN_002: Stated = Stated {
@@ -308,7 +317,7 @@ const AT_EDGE: Stated = Stated {
     ..IN_002
 };
 
-/// The worked translations of document 002, and the edges P3 to P9 and P12.
+/// The worked translations of document 002, the edges P3 to P9 and P12, and pages in the compressed store.
 pub const STATED: &[Stated] = &[
     Stated {
         what: "002, 0xB34000 in the pagefile",
@@ -405,6 +414,51 @@ pub const STATED: &[Stated] = &[
         address: 0xB1_4000,
         number: 21,
         entries_read: 5,
+        ..AT_EDGE
+    },
+    Stated {
+        what: "02, order 5, P7's page in the store, in the pagefile's length",
+        pagefile_length: 0x5000,
+        address: 0xB1_5000,
+        number: 31,
+        entries_read: 4,
+        ..AT_EDGE
+    },
+    Stated {
+        what: "02, order 5, P7's page in the store, past the pagefile's end",
+        pagefile_length: 0x4000,
+        address: 0xB1_5000,
+        number: 31,
+        entries_read: 4,
+        ..AT_EDGE
+    },
+    Stated {
+        what: "02, order 5, P8's entry with bit 22",
+        address: 0xB1_6000,
+        number: 3,
+        entries_read: 4,
+        ..AT_EDGE
+    },
+    Stated {
+        what: "02, order 5, in the store with bits 1-4 set too",
+        address: 0xB1_7000,
+        number: 31,
+        entries_read: 4,
+        ..AT_EDGE
+    },
+    Stated {
+        what: "02, order 5, a prototype entry in the store",
+        pagefile_length: 0x5000,
+        address: 0xB1_8000,
+        number: 31,
+        entries_read: 9,
+        ..AT_EDGE
+    },
+    Stated {
+        what: "02, order 5, a prototype entry of zeros with bit 22",
+        address: 0xB1_9000,
+        number: 3,
+        entries_read: 9,
         ..AT_EDGE
     },
 ];

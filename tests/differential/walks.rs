@@ -29,7 +29,9 @@ mod walk_cases;
 
 use common::arguments;
 use common::case_files::CaseFiles;
-use common::codes::{address_numbers, CASE_REFUSALS, NOT_CANONICAL, PAGE_REFUSALS, PLACES};
+use common::codes::{
+    address_numbers, CASE_REFUSALS, NOT_CANONICAL, PAGE_IN_STORE, PAGE_REFUSALS, PLACES,
+};
 use common::many_runs::ByRuns;
 use common::print::{hex, with_commas};
 use common::tally::{print_table, Tally, LEAST_TIMES};
@@ -86,8 +88,8 @@ struct Comparison {
     read: Tally,
     resolved_by_runs: ByRuns,
     read_by_runs: ByRuns,
-    /// By the prototype entries followed: all answers of accepted cases, and those found.
-    chains: [[u64; 2]; MOST_PROTOTYPES + 1],
+    /// By the prototype entries followed: all answers of accepted cases, those found, those in the store.
+    chains: [[u64; 3]; MOST_PROTOTYPES + 1],
     most_entries: u64,
     edges: EdgeTimes,
     differing: u64,
@@ -105,7 +107,7 @@ impl Comparison {
             read: Tally::new("read", read_numbers()),
             resolved_by_runs: ByRuns::new("resolve", address_numbers()),
             read_by_runs: ByRuns::new("read", read_numbers()),
-            chains: [[0; 2]; MOST_PROTOTYPES + 1],
+            chains: [[0; 3]; MOST_PROTOTYPES + 1],
             most_entries: 0,
             edges: EdgeTimes::new(),
             differing: 0,
@@ -165,6 +167,7 @@ impl Comparison {
         if !CASE_REFUSALS.contains(&ours.number) && chain <= MOST_PROTOTYPES {
             self.chains[chain][0] += 1;
             self.chains[chain][1] += u64::from(PLACES.contains(&ours.number));
+            self.chains[chain][2] += u64::from(ours.number == PAGE_IN_STORE);
         }
         [
             [theirs.number, theirs.offset, theirs.entries],
@@ -286,10 +289,13 @@ fn report(comparison: &Comparison, least_edge_times: u64) -> bool {
     print_table(&[&comparison.resolved, &comparison.read]);
     comparison.resolved_by_runs.print();
     comparison.read_by_runs.print();
-    println!("{:>6} {:>12} {:>12}", "depth", "answers", "found");
-    for (chain, [answers, found]) in comparison.chains.iter().enumerate() {
-        let (answers, found) = (with_commas(*answers), with_commas(*found));
-        println!("{:>6} {:>12} {:>12}", chain, answers, found);
+    println!(
+        "{:>6} {:>12} {:>12} {:>12}",
+        "depth", "answers", "found", "in store"
+    );
+    for (chain, times) in comparison.chains.iter().enumerate() {
+        let [answers, found, stored] = times.map(with_commas);
+        println!("{:>6} {:>12} {:>12} {:>12}", chain, answers, found, stored);
     }
     println!("most entries read: {}", comparison.most_entries);
     comparison.edges.print();
@@ -314,12 +320,14 @@ fn reasons_to_fail(comparison: &Comparison, least_edge_times: u64) -> Vec<String
     reasons.extend(comparison.read.reasons(&read_numbers()));
     reasons.extend(comparison.resolved_by_runs.reasons(&[1, 23]));
     reasons.extend(comparison.read_by_runs.reasons(&[0, 23]));
-    for (chain, [_, found]) in comparison.chains.iter().enumerate() {
-        if *found < LEAST_TIMES {
-            reasons.push(format!(
-                "found at depth {} came up {} times, wanted {}",
-                chain, found, LEAST_TIMES
-            ));
+    for (chain, [_, found, stored]) in comparison.chains.iter().enumerate() {
+        for (what, times) in [("found", found), ("in store", stored)] {
+            if *times < LEAST_TIMES {
+                reasons.push(format!(
+                    "{} at depth {} came up {} times, wanted {}",
+                    what, chain, times, LEAST_TIMES
+                ));
+            }
         }
     }
     reasons.extend(comparison.edges.reasons(least_edge_times));

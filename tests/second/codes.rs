@@ -39,6 +39,8 @@ page_refusals! {
     FOURTH_PROTOTYPE = 28;
     /// The prototype address is not a multiple of 8.
     UNALIGNED_PROTOTYPE = 29;
+    /// The page is in the compressed store.
+    PAGE_IN_STORE = 31;
 }
 
 /// Whether the code has a first page.

@@ -1,7 +1,8 @@
 //! Maps: the pages of a range written as extents, and an address looked up in them.
 
 use super::codes::{
-    has_page, is_code, refuses, IMAGE, NOT_CANONICAL, PAGEFILE, UNALIGNED_PROTOTYPE, ZEROS,
+    has_page, is_code, refuses, IMAGE, NOT_CANONICAL, PAGEFILE, PAGE_IN_STORE, UNALIGNED_PROTOTYPE,
+    ZEROS,
 };
 use super::number::{append, Numbers, Refusal, NUMBER_LIMIT, OUTSIDE_LIMITS};
 use super::sheet::BYTES_AFTER_LAST_FIELD;
@@ -523,6 +524,8 @@ fn is_listed(code: u64, slip: Slip) -> bool {
         Slip::CodeFourTaken if code == ZEROS + 1 => true,
         Slip::CodeTwentyTaken if code == u64::from(NOT_CANONICAL) => true,
         Slip::CodeThirtyTaken if code == u64::from(UNALIGNED_PROTOTYPE) + 1 => true,
+        Slip::CodeThirtyOneUnlisted if code == u64::from(PAGE_IN_STORE) => false,
+        Slip::CodeThirtyTwoTaken if code == u64::from(PAGE_IN_STORE) + 1 => true,
         _ => is_code(code),
     }
 }

@@ -212,6 +212,17 @@ slips! {
         OtherPagefileAfterEnd
         PastPagefileByOnePage
         LastPagefilePageRefused
+        StoreNotKnown
+        StoreByBit21
+        StoreByBit23
+        StoreBeforeZero
+        StoreAfterOtherPagefile
+        StoreAfterEnd
+        StoreAtLastLevelOnly
+        StoreInPrototypeEntriesOnly
+        ValidTakenAsStored
+        TransitionTakenAsStored
+        PrototypeTakenAsStored
         ZerosKeepPlace
         RefusalKeepsPlace
         CountSkipsPrototypeEntry
@@ -318,6 +329,8 @@ slips! {
         CodeFourTaken
         CodeTwentyTaken
         CodeThirtyTaken
+        CodeThirtyOneUnlisted
+        CodeThirtyTwoTaken
         CodeJudgedWithExtent
         ExtentLengthZeroTaken
         LengthZeroJudgedBeforePage

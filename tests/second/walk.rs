@@ -2,8 +2,8 @@
 
 use super::codes::{
     BACKED_BY_FILE, FOURTH_PROTOTYPE, FRAME_IN_NO_RUN, FRAME_TOO_WIDE, IMAGE, NOT_CANONICAL,
-    OTHER_PAGEFILE, PAGEFILE, PAST_PAGEFILE, REGION_NEEDED, TABLE_NOT_VALID, UNALIGNED_PROTOTYPE,
-    ZEROS,
+    OTHER_PAGEFILE, PAGEFILE, PAGE_IN_STORE, PAST_PAGEFILE, REGION_NEEDED, TABLE_NOT_VALID,
+    UNALIGNED_PROTOTYPE, ZEROS,
 };
 use super::number::Refusal;
 use super::sheet::{check_sheet, Case};
@@ -17,6 +17,8 @@ const VALID: u32 = 0;
 const LARGE: u32 = 7;
 const PROTOTYPE: u32 = 10;
 const TRANSITION: u32 = 11;
+/// Of a software entry.
+const IN_STORE: u32 = 22;
 
 /// Bits 16-63 of a prototype entry that leaves its page to the region record.
 const VAD_PROTOTYPE: u64 = 0xFFFF_FFFF_0000;
@@ -328,7 +330,11 @@ impl<'a> Walk<'a> {
         if region_needed {
             return Err(REGION_NEEDED);
         }
-        self.software_page(entry, address)
+        let judged = match self.slip {
+            Slip::StoreInPrototypeEntriesOnly => without_store(entry),
+            _ => entry,
+        };
+        self.software_page(judged, address)
     }
 
     /// The rule for the entry that a prototype address led to.
@@ -351,10 +357,17 @@ impl<'a> Walk<'a> {
         if self.slip == Slip::ZeroPrototypeEntryNeedsRegion && entry == 0 {
             return Err(REGION_NEEDED);
         }
-        self.software_page(entry, address)
+        let judged = match self.slip {
+            Slip::StoreAtLastLevelOnly => without_store(entry),
+            _ => entry,
+        };
+        self.software_page(judged, address)
     }
 
     fn valid_page(&self, entry: u64, address: u64) -> Result<Place, Refusal> {
+        if self.slip == Slip::ValidTakenAsStored && is_set(entry, IN_STORE) {
+            return Err(PAGE_IN_STORE);
+        }
         let large = self.slip == Slip::LargeAtLastLevel && is_set(entry, LARGE);
         let frame = if large {
             large_frame(entry, LAST_LEVEL - 1, address, self.slip)
@@ -369,6 +382,7 @@ impl<'a> Walk<'a> {
     fn transition_page(&self, entry: u64, address: u64) -> Result<Place, Refusal> {
         let frame = match self.slip {
             Slip::TransitionCalledMissing => return Err(REGION_NEEDED),
+            Slip::TransitionTakenAsStored if is_set(entry, IN_STORE) => return Err(PAGE_IN_STORE),
             Slip::TransitionFrameTakesHighBits => bits(entry, 12, 51),
             _ => frame_of(entry, self.slip),
         };
@@ -378,21 +392,20 @@ impl<'a> Walk<'a> {
         self.byte_in_frame(frame, address)
     }
 
-    /// A page of zeros, a byte of the pagefile, 26 or 27.
+    /// A page of zeros, 31, 26, 27 or a byte of the pagefile.
     fn software_page(&self, entry: u64, address: u64) -> Result<Place, Refusal> {
         let pagefile_page = match self.slip {
             Slip::PagefileOffsetFromFrameBits => bits(entry, 12, 47),
             Slip::PagefilePageIn20Bits => bits(entry, 32, 51),
             _ => bits(entry, 32, 63),
         };
-        let other = match self.slip {
-            Slip::OtherPagefileTaken => false,
-            Slip::OtherPagefileBy3Bits => bits(entry, 1, 3) != 0,
-            Slip::OtherPagefileBy5Bits => bits(entry, 1, 5) != 0,
-            _ => bits(entry, 1, 4) != 0,
-        };
+        let other = is_other_pagefile(entry, self.slip);
+        let stored = is_stored(entry, self.slip);
         if other && self.slip == Slip::OtherPagefileBeforeZero {
             return Err(OTHER_PAGEFILE);
+        }
+        if stored && self.slip == Slip::StoreBeforeZero {
+            return Err(PAGE_IN_STORE);
         }
         if bits(entry, 32, 63) == 0 {
             return Ok(Place::Zeros);
@@ -403,6 +416,14 @@ impl<'a> Walk<'a> {
             Slip::LastPagefilePageRefused => start + PAGE_BYTES >= self.pagefile.len() as u64,
             _ => start + PAGE_BYTES > self.pagefile.len() as u64,
         };
+        let judged_before = match self.slip {
+            Slip::StoreAfterOtherPagefile => other,
+            Slip::StoreAfterEnd => other || past,
+            _ => false,
+        };
+        if stored && !judged_before {
+            return Err(PAGE_IN_STORE);
+        }
         match (other, past) {
             (true, true) if self.slip == Slip::OtherPagefileAfterEnd => Err(PAST_PAGEFILE),
             (true, _) => Err(OTHER_PAGEFILE),
@@ -418,6 +439,9 @@ impl<'a> Walk<'a> {
         address: u64,
         prototypes: u32,
     ) -> Result<Place, Refusal> {
+        if self.slip == Slip::PrototypeTakenAsStored && is_set(entry, IN_STORE) {
+            return Err(PAGE_IN_STORE);
+        }
         let target = prototype_address(entry, self.slip);
         if let Err(refusal) = judge_prototype_address(target, prototypes, self.slip) {
             if self.slip == Slip::CountTakesRefusedChain {
@@ -552,6 +576,30 @@ fn is_transition(entry: u64, slip: Slip) -> bool {
         Slip::TransitionBeforePrototype => transition,
         _ => transition && !is_set(entry, PROTOTYPE),
     }
+}
+
+/// Bits 1-4 of a software entry are its pagefile's number.
+fn is_other_pagefile(entry: u64, slip: Slip) -> bool {
+    match slip {
+        Slip::OtherPagefileTaken => false,
+        Slip::OtherPagefileBy3Bits => bits(entry, 1, 3) != 0,
+        Slip::OtherPagefileBy5Bits => bits(entry, 1, 5) != 0,
+        _ => bits(entry, 1, 4) != 0,
+    }
+}
+
+fn is_stored(entry: u64, slip: Slip) -> bool {
+    match slip {
+        Slip::StoreNotKnown => false,
+        Slip::StoreByBit21 => is_set(entry, IN_STORE - 1),
+        Slip::StoreByBit23 => is_set(entry, IN_STORE + 1),
+        _ => is_set(entry, IN_STORE),
+    }
+}
+
+/// For slips: the entry as if its page were not in the store.
+fn without_store(entry: u64) -> u64 {
+    entry & !(1 << IN_STORE)
 }
 
 fn is_vad_prototype(entry: u64, slip: Slip) -> bool {
