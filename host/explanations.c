@@ -88,6 +88,11 @@ static const char *const explanations[] = {
     [GLINT_PROTOTYPE_UNALIGNED] =
         "The entry names a prototype entry at an address that is not a multiple of 8, where none can be. The entry is damaged, "
         "or what was read as a table is none. Check the directory page; other addresses may still be answered.",
+    [GLINT_PAGE_IN_STORE] =
+        "Windows compressed the page into a store of its own, as bit 22 of its entry (InStore) says. Neither the image nor the "
+        "pagefile has it as a page: what the pagefile holds at the place that the entry seems to name belongs to another page, "
+        "or to none, and is not shown. Take it from the store with a tool that unpacks it; a map made by a reader without this "
+        "number may name such a false place, and is to be made again.",
 
     [GLINT_BAD_MAP_RANGE] =
         "The range does not start at a multiple of 4,096, has no page or more than 1,048,576, or is not in one half of the "
@@ -95,9 +100,9 @@ static const char *const explanations[] = {
     [GLINT_OUTSIDE_MAP] =
         "The map is sound, but its range does not have the address. Ask resolve, or make a map of a range that has it.",
     [GLINT_BAD_EXTENT] =
-        "An extent of the map breaks the layout: a code other than 1, 2, 3 and 21 to 29, a length of 0, pages past 2^36 of the "
-        "file, an extent that belongs to the one before, or lengths that sum to more than the page count. The map is damaged, "
-        "or a later reader wrote it that has more codes. Make it again with map.",
+        "An extent of the map breaks the layout: a code other than 1, 2, 3, 21 to 29 and 31, a length of 0, pages past 2^36 of "
+        "the file, an extent that belongs to the one before, or lengths that sum to more than the page count. The map is "
+        "damaged, or a later reader wrote it that has more codes. Make it again with map.",
     [GLINT_MAP_BUFFER_SHORT] =
         "The map is longer than the buffer that was lent for it, and nothing was written. This program lends enough for every "
         "map; another that calls glint_map does so with GLINT_MAP_BYTES bytes.",

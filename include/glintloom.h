@@ -28,7 +28,7 @@ extern "C" {
 /* The version of this header. MAJOR, which the shared library's name carries, moves where a program that was compiled with
  * an older header could no longer run; MINOR where only something was added; PATCH where the header stays. */
 #define GLINT_VERSION_MAJOR 1
-#define GLINT_VERSION_MINOR 0
+#define GLINT_VERSION_MINOR 1
 #define GLINT_VERSION_PATCH 0
 
 /* What the number of an answer is about. */
@@ -67,6 +67,7 @@ enum glint_kind {
     X(PAST_PAGEFILE, 27, ADDRESS, "past the pagefile's end")                                    \
     X(PROTOTYPE_CHAIN_TOO_LONG, 28, ADDRESS, "a fourth prototype entry would be needed")        \
     X(PROTOTYPE_UNALIGNED, 29, ADDRESS, "prototype address not a multiple of 8")                \
+    X(PAGE_IN_STORE, 31, ADDRESS, "page is in the compressed store")                            \
     X(BAD_MAP_RANGE, 40, CALL, "map range wrong")                                               \
     X(OUTSIDE_MAP, 41, CALL, "address outside the map")                                         \
     X(BAD_EXTENT, 43, CALL, "extent wrong")                                                     \
@@ -115,7 +116,8 @@ typedef struct { uint64_t number, length; } glint_written;
 /* number: 0, or a refusal (then directory and length are 0); directory: the frame of the top table; length: runs. */
 typedef struct { uint64_t number, directory, length; } glint_case_read;
 
-/* number: 1, 2, 3 or 21 to 29 as the map has it, or a refusal of the lookup; offset: for 1 and 2 the addressed byte's, else 0. */
+/* number: 1, 2, 3, 21 to 29 or 31 as the map has it, or a refusal of the lookup; offset: for 1 and 2 the addressed byte's,
+ * else 0. */
 typedef struct { uint64_t number, offset; } glint_found;
 
 /* These two are plain C and not proved; the calls after them are. Their texts stay for the whole run. */
@@ -142,7 +144,9 @@ glint_bytes glint_read(const uint8_t *sheet, size_t sheet_length, const uint8_t 
                        uint8_t *out, size_t out_length);
 
 /* The map of `pages` pages (1 to 2^20) from `start` (a multiple of 4,096) on into `out`: 44 exactly if it is longer than
- * `out`. Bytes past the map stay. */
+ * `out`. Bytes past the map stay. A library without number 31 took a page of the compressed store for one of the pagefile:
+ * its maps may name places of the pagefile that hold nothing of the page, and are to be made again. It says 43 to a map with
+ * code 31; a map without such a page has the same bytes by both, and each reads it. */
 glint_written glint_map(const uint8_t *sheet, size_t sheet_length, const uint8_t *image, size_t image_length,
                         const uint8_t *pagefile, size_t pagefile_length, uint64_t start, uint64_t pages,
                         uint8_t *out, size_t out_length);

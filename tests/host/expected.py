@@ -16,8 +16,8 @@ def refusals():
 REFUSALS = refusals()
 WORDS = {0: "done", **PLACES, **REFUSALS}
 
-# The map of 16 pages from 0xB34000 on in the shipped case.
-SHIPPED_MAP = bytes.fromhex("01b416101b010201011b0101010503011601010105170118011a011d011c010101050201010302")
+# The map of 18 pages from 0xB34000 on in the shipped case.
+SHIPPED_MAP = bytes.fromhex("01b416121b010201011b0101010503011601010105170118011a011d011c0101010502010103021f02")
 
 
 def place(address, number, offset=0, entries=None):

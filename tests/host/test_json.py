@@ -50,8 +50,8 @@ class Json(HostTest):
         self.assertEqual(refused, [answer("address", 0xB38FFF, 22, refused_address="0xB39000")])
 
     def test_map_and_lookup(self):
-        expected = answer("start", 0xB34000, 0, length="0x27", bytes=SHIPPED_MAP.hex().upper())
-        self.assertEqual(self.answers("map", *self.case, "0xB34000", "16"), [expected])
+        expected = answer("start", 0xB34000, 0, length="0x29", bytes=SHIPPED_MAP.hex().upper())
+        self.assertEqual(self.answers("map", *self.case, "0xB34000", "18"), [expected])
         refused = self.answers("map", *self.case, "0xB34001", "16", status=REFUSED)
         self.assertEqual(refused, [answer("start", 0xB34001, 40)])
         path = self.write("map", SHIPPED_MAP)

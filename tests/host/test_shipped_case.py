@@ -1,4 +1,5 @@
-"""The shipped case has everything: a processor block, a process list that closes, a record with a time in the pagefile."""
+"""The shipped case has everything: a processor block, a process list that closes, a record with a time in the pagefile,
+a page in the compressed store."""
 from cases import PAGE, SHIPPED, make_case, sheet_of
 from library import Library
 from program import ROOT, HostTest
@@ -45,6 +46,17 @@ class ShippedCase(HostTest):
         ticks, moment = int.from_bytes(content[-8:], "little"), make_case.RECORD_TIME
         self.assertEqual(ticks, (moment.timestamp() + 11_644_473_600) * 10_000_000)
         self.assertIn(f"0x{ticks:016X} is {moment:%d %B %Y, %H:%M:%S} UTC", (ROOT / "example").read_text())
+
+    def test_page_in_the_compressed_store(self):
+        """Its entry is the record's but for bit 22; no byte of the pagefile is shown for it."""
+        entries = dict(make_case.OURS)
+        self.assertEqual(entries[0x257859A8] | 1 << 22, entries[0x25785A20])
+        self.assertEqual(make_case.STORED % PAGE, make_case.RECORD % PAGE)
+        for pagefile in (self.case[2], b"", bytes(PAGE)):
+            case = [*self.case[:2], pagefile]
+            self.assertEqual(self.library.resolve(case, make_case.STORED), (31, 0, 4))
+            self.assertEqual(self.library.page(case, make_case.STORED), (0, 0, 0))
+            self.assertEqual(self.library.read(case, make_case.STORED, 8), (31, b"", 0))
 
     def test_record_without_the_pagefile(self):
         for pagefile in (b"", bytes(PAGE)):

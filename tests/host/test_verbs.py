@@ -223,12 +223,12 @@ class MapAndLookup(HostTest):
         self.case = shipped_case(self.directory).words()
 
     def test_map_in_lines(self):
-        lines = [done(0xB34000, "0x27 bytes")] + dump(0, SHIPPED_MAP)
-        self.says(["map", *self.case, "0xB34000", "16"], ANSWERED, lines)
+        lines = [done(0xB34000, "0x29 bytes")] + dump(0, SHIPPED_MAP)
+        self.says(["map", *self.case, "0xB34000", "18"], ANSWERED, lines)
 
     def test_lookup_answers_as_resolve(self):
         path = self.write("map", SHIPPED_MAP)
-        answers = [answer for answer in shipped_answers() if 0xB34000 <= answer[0] < 0xB44000]
+        answers = [answer for answer in shipped_answers() if 0xB34000 <= answer[0] < 0xB46000]
         self.assertGreater(len(answers), 10)
         addresses = [answer[0] for answer in answers]
         self.says(["lookup", path, *addresses], REFUSED, [place(*answer[:3]) for answer in answers])
@@ -237,8 +237,8 @@ class MapAndLookup(HostTest):
 
     def test_lookup_refusals(self):
         path = self.write("map", SHIPPED_MAP)
-        lines = [place(0xB44000, 41), place(0x800000000000, 20)]
-        self.says(["lookup", path, "0xB44000", "0x800000000000"], REFUSED, lines)
+        lines = [place(0xB46000, 41), place(0x800000000000, 20)]
+        self.says(["lookup", path, "0xB46000", "0x800000000000"], REFUSED, lines)
         for content, number in (
             (b"", 10),
             (SHIPPED_MAP[:-1], 10),
@@ -246,6 +246,7 @@ class MapAndLookup(HostTest):
             (b"\x02", 12),
             (SHIPPED_MAP + b"\0", 14),
             (b"\1\0\1\4", 43),
+            (b"\1\0\1\x20", 43),
         ):
             for addresses in ([], ["0xB34000"], ["0xB34000", "0x800000000000"]):
                 self.says(["lookup", self.write("map", content), *addresses], REFUSED, [fault("map", number)])
@@ -339,7 +340,7 @@ class ExplainAndHelp(HostTest):
         self.assertEqual(len(texts), len(WORDS))
 
     def test_numbers_that_no_answer_has(self):
-        for number in (4, 9, 18, 30, 42, 46, 54, 56, 99, 2**32 + 22, 2**64 - 1):
+        for number in (4, 9, 18, 30, 32, 42, 46, 54, 56, 99, 2**32 + 22, 2**64 - 1):
             self.fails(["explain", number], f"no answer has the number {number}")
         self.fails(["explain", 22, 99], "99")
 
