@@ -65,8 +65,9 @@ const GUARD: usize = 64;
 fn main() -> ExitCode {
     arguments::run("walks", 200_000, WALK_SLIPS, |arguments| {
         let mut comparison = Comparison::new(arguments.slip);
-        let mut compare =
-            |files: &CaseFiles, question: &Question| comparison.compare(files, question);
+        let mut compare = |files: &CaseFiles, question: &Question| {
+            comparison.compare(files, question);
+        };
         each_question(arguments.seed, arguments.cases, &mut compare);
         each_question_about_runs(arguments.seed, &mut compare);
         let times = arguments.cases / CASES_AN_EDGE;
