@@ -66,8 +66,8 @@ fn question(random: &mut Xorshift) -> Question {
 fn good_fields(random: &mut Xorshift) -> Vec<u64> {
     let runs = match random.below(64) {
         0..=15 => 1,
-        16 => MOST_RUNS,
-        17..=19 => 1 + random.below(MOST_RUNS),
+        16..=18 => MOST_RUNS,
+        19..=21 => 1 + random.below(MOST_RUNS),
         _ => 1 + random.below(40),
     };
     let widest = 1 + random.below(36);

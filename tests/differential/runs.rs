@@ -49,8 +49,8 @@ const ONE_SHORT: u64 = 1;
 const EXACT: u64 = 2;
 const LONGER: u64 = 3;
 
-/// Run counts of cases told; 2 stands for all between 1 and 32.
-const RUN_COUNTS: &[u64] = &[1, 2, 32];
+/// Run counts of cases told; 2 stands for 2 to 32, 33 for 33 to 999.
+const RUN_COUNTS: &[u64] = &[1, 2, 33, 1000];
 
 /// P1 of the paper: sheet, image length, directory page, numbers of its runs.
 const P1: (&[u8], u64, u64, [u64; 6]) = (
@@ -158,7 +158,8 @@ impl Comparison {
         self.numbers.count(number);
         if number == 0 {
             self.run_counts.count(match length {
-                3..=31 => 2,
+                2..=32 => 2,
+                33..=999 => 33,
                 _ => length,
             });
         }
