@@ -53,7 +53,7 @@ class Pool(HostTest):
     def test_bytes_are_shown_as_they_are(self):
         image = pool_page(1, 511)
         self.finds(image, [0, UNIT])
-        row = "0000000000000008  01 00 FF 0B 50 72 6F E3                           |....Pro.|"
+        row = "0x0000000000000008  01 00 FF 0B 50 72 6F E3                           |....Pro.|"
         self.assertEqual(shown_lines(image, [UNIT])[0], row)
 
     def test_many_pages(self):

@@ -143,7 +143,6 @@ class InputFiles(HostTest):
             self.fails([verb, *words, *numbers], message)
         self.fails(["lookup", name, "0"], message)
         self.fails(["pool", name], message)
-        self.fails(["pool", "--json", name], message)
 
     def test_missing(self):
         self.each_place(self.directory / "missing", "missing: No such file or directory")
