@@ -62,6 +62,8 @@ class Damage:
 
     def run_json(self, *words):
         """The answers, or the fault of the case or map as the only one."""
+        # Of 16 decimal digits the program does not say whether they are hex, so every number is.
+        words = [f"{word:#x}" if isinstance(word, int) else word for word in words]
         done = run(words[0], "--json", *words[1:])
         if done.returncode not in (0, 1) or any(word in done.stderr for word in SANITIZER_WORDS):
             raise Fault(f"{words}: exit status {done.returncode}\n{done.stderr.decode(errors='replace')}")
