@@ -13,7 +13,7 @@ use Rattle.base.specs.declared.Refusal.the-variants.{Truncated, NumberMalformed
 use Rattle.varint.specs.Reader.{Read, got, refused, Reader, after, need, ended}
 use Rattle.varint.specs.Groups.{under, dec, decode, number}
 use Rattle.varint.specs.Edition.{EditionFields, edition, editionFields}
-use Rattle.sheet.specs.Sheet.{header, runFrom, runsFrom, endOf, runPages}
+use Rattle.sheet.specs.Sheet.{header, runFrom, runsFrom, endOf, runPages, ownFields}
 use Rattle.sheet.specs.declared.Header.{Header}
 use Rattle.sheet.specs.declared.Run.{Run}
 use Rattle.case_runs.specs.Call.{imageBytes}
@@ -79,8 +79,12 @@ runs-own zero least end s at = tt
 runs-own (suc n) least end s at =
     then-own s _ (runFrom least end s at) (run-own least end s at) (λ r a. then-own s _ (runsFrom n 1 (endOf r) s a) (runs-own n 1 (endOf r) s a) (λ rs b. tt))
 
-pub own-faults : (s : List ℕ) (at : ℕ) → OwnFault (imageBytes s at)
-unfolding imageBytes
-own-faults s at =
+fields-own-faults : (s : List ℕ) (at : ℕ) → OwnFault (ownFields s at)
+unfolding ownFields
+fields-own-faults s at =
     then-own s _ (header s at) (header-own s at) (λ h a. then-own s _ (runsFrom (h .count) 0 0 s a) (runs-own (h .count) 0 0 s a) (λ rs b.
     need-own s _ (eqb b (length s)) TrailingBytes b (omega arith) (λ x c. tt)))
+
+pub own-faults : (s : List ℕ) (at : ℕ) → OwnFault (imageBytes s at)
+unfolding imageBytes
+own-faults s at = then-own s _ (ownFields s at) (fields-own-faults s at) (λ t a. tt)

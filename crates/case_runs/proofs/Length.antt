@@ -2,43 +2,29 @@
 use mathlib.Core.Path.{_≡_, refl, sym, ap, _∙_}
 use mathlib.Core.List.{List}
 use mathlib.Core.Bool.{Bool, true, false, not}
-use Prim.Native.Nat.{ℕ, _*_, _%_, _^_, _≤_}
+use Prim.Native.Nat.{ℕ, _*_, _%_, _≤_}
 use native.Mathlib.Omega.{arith}
 use lib.Dec.{eqb}
-use lib.ListN.{length}
-use borrow.Author.Tests.{eq-eqb, ne-eqb, eqb-false}
+use borrow.Author.Tests.{eqb-false}
 use Rattle.base.specs.Notation.{if_then_else_}
 use Rattle.base.specs.Refusal.{refusalNumber}
 use Rattle.base.specs.Written.{notWritten}
 use Rattle.base.specs.declared.Refusal.{Refusal}
-use Rattle.base.specs.declared.Refusal.the-variants.{TrailingBytes}
 use Rattle.base.specs.declared.Written.{Written}
 use Rattle.varint.specs.Reader.{Read, got, refused}
-use Rattle.sheet.specs.Sheet.{header, runsFrom, runPages, Sheet, sheetFields, sheetOf}
+use Rattle.sheet.specs.Sheet.{runPages, Sheet, ownFields, sheetFields, sheetOf}
 use Rattle.sheet.specs.declared.Header.{Header}
-use Rattle.sheet.specs.declared.Run.{Run}
-use Rattle.sheet.proofs.WholeSheet.{RunsFound}
+use Rattle.sheet.proofs.WholeSheet.{FieldsFound}
 use Rattle.case_runs.specs.Call.{imageBytes, imageLengthOf}
 use Rattle.case_runs.proofs.Faults.{OwnFault, own-faults}
 
-module _ (s : List ℕ) where
-  pub no-header : (r : Refusal) → header s 0 ≡ refused r → (w : Written) → w ≡ notWritten r → w ≡ imageLengthOf s
-  unfolding imageLengthOf imageBytes
-  no-header r e w g = rw (e, g)
+pub no-length : (s : List ℕ) (r : Refusal) → ownFields s 0 ≡ refused r → (w : Written) → w ≡ notWritten r → w ≡ imageLengthOf s
+unfolding imageLengthOf imageBytes
+no-length s r e w g = rw (e, g)
 
-  module _ (h : Header) (at : ℕ) (e₁ : header s 0 ≡ got h at) where
-    pub no-runs : (r : Refusal) → runsFrom (h .count) 0 0 s at ≡ refused r → (w : Written) → w ≡ notWritten r → w ≡ imageLengthOf s
-    unfolding imageLengthOf imageBytes
-    no-runs r e w g = rw (e₁, e, g)
-
-    module _ {old new : List ℕ} {pages end : ℕ} (q : RunsFound (runsFrom (h .count) 0 0 s at) old pages end new) where
-      pub trailing : (end ≡ length s → ⊥) → (w : Written) → w ≡ notWritten TrailingBytes → w ≡ imageLengthOf s
-      unfolding imageLengthOf imageBytes
-      trailing n w g = rw (e₁, q .field, ne-eqb end (length s) n, g)
-
-      pub asked : end ≡ length s → record { number = 0; length = 4096 * pages } ≡ imageLengthOf s
-      unfolding imageLengthOf imageBytes
-      asked n = rw (e₁, q .field, eq-eqb end (length s) n, q .total)
+pub asked : (s old : List ℕ) (h : Header) (pages : ℕ) (new : List ℕ) → FieldsFound (ownFields s 0) old h pages new → record { number = 0; length = 4096 * pages } ≡ imageLengthOf s
+unfolding imageLengthOf imageBytes
+asked s old h pages new q = rw (q .field, q .total)
 
 -- ---- the check of a case, by the length that its sheet asks for
 
@@ -55,31 +41,20 @@ module _ (s : List ℕ) (image pagefile : ℕ) where
   abbrev Agrees : Type 0
   Agrees = sheet-number (sheetOf s image pagefile) ≡ by-length image pagefile (imageBytes s 0)
 
-  module _ (h : Header) (at : ℕ) (e : header s 0 ≡ got h at) where
-    module _ (rs : List Run) (end : ℕ) (f : runsFrom (h .count) 0 0 s at ≡ got rs end) where
-      at-lengths : eqb end (length s) ≡ true → (a b : Bool) → eqb image (4096 * runPages rs) ≡ a → eqb (pagefile % 4096) 0 ≡ b → Agrees
-      unfolding sheetOf sheetFields imageBytes
-      at-lengths g true true x y = rw (e, f, g, x, y)
-      at-lengths g true false x y = rw (e, f, g, x, y)
-      at-lengths g false b x y = rw (e, f, g, x)
-
-      at-end : (a : Bool) → eqb end (length s) ≡ a → Agrees
-      unfolding sheetOf sheetFields imageBytes
-      at-end true g = at-lengths g (eqb image (4096 * runPages rs)) (eqb (pagefile % 4096) 0) refl refl
-      at-end false g = rw (e, f, g)
-
-    at-runs : (d : Read (List Run)) → runsFrom (h .count) 0 0 s at ≡ d → Agrees
+  module _ (sheet : Sheet) (at : ℕ) (e : ownFields s 0 ≡ got sheet at) where
+    at-lengths : (a b : Bool) → eqb image (4096 * runPages (sheet .runs)) ≡ a → eqb (pagefile % 4096) 0 ≡ b → Agrees
     unfolding sheetOf sheetFields imageBytes
-    at-runs (got rs end) f = at-end rs end f (eqb end (length s)) refl
-    at-runs (refused r) f = rw (e, f)
+    at-lengths true true x y = rw (e, x, y)
+    at-lengths true false x y = rw (e, x, y)
+    at-lengths false b x y = rw (e, x)
 
-  at-header : (d : Read Header) → header s 0 ≡ d → Agrees
+  at-fields : (d : Read Sheet) → ownFields s 0 ≡ d → Agrees
   unfolding sheetOf sheetFields imageBytes
-  at-header (got h at) e = at-runs h at e (runsFrom (h .count) 0 0 s at) refl
-  at-header (refused r) e = rw e
+  at-fields (got sheet at) e = at-lengths sheet at e (eqb image (4096 * runPages (sheet .runs))) (eqb (pagefile % 4096) 0) refl refl
+  at-fields (refused r) e = rw e
 
   pub case-by-length : sheet-number (sheetOf s image pagefile) ≡ by-length image pagefile (imageBytes s 0)
-  case-by-length = at-header (header s 0) refl
+  case-by-length = at-fields (ownFields s 0) refl
 
 -- for 15 there is a length that the sheet asks for, and the image has another
 pub record AsksAnother (s : List ℕ) (image : ℕ) : Type 0 where

@@ -10,8 +10,8 @@ use Rattle.base.specs.declared.Refusal.{Refusal}
 use Rattle.base.specs.declared.Refusal.the-variants.{ListBufferShort}
 use Rattle.base.specs.Written.{notWritten}
 use Rattle.base.specs.declared.Written.{Written}
-use Rattle.varint.specs.Reader.{Read, got, refused, Reader, _>>=_, _>>_, return, ended}
-use Rattle.sheet.specs.Sheet.{header, runsFrom, runPages, Sheet, sheetOf}
+use Rattle.varint.specs.Reader.{Read, got, refused, Reader, _>>=_, return}
+use Rattle.sheet.specs.Sheet.{runPages, Sheet, ownFields, sheetOf}
 use Rattle.sheet.specs.declared.Run.{Run}
 use Rattle.case_runs.specs.declared.CaseRead.{CaseRead}
 
@@ -52,10 +52,8 @@ caseRunsOf bytes image pagefile out = checkedRuns out (sheetOf bytes image pagef
 -- the bytes that a sheet asks of its image: its fields, without the lengths of the two files
 unfoldable pub imageBytes : Reader ℕ
 imageBytes = do
-  h ← header
-  runs ← runsFrom (h .count) 0 0
-  ended
-  return (4096 * runPages runs)
+  s ← ownFields
+  return (4096 * runPages (s .runs))
 
 abbrev pub lengthRead : Read ℕ → Written
 lengthRead (got n at) = record { number = 0; length = n }

@@ -1,8 +1,7 @@
 // What a case's sheet says, in numbers: the directory page, and where each run lies in physical memory and in the image.
 use base::Refusal;
 use base::Written;
-use sheet::HeaderRead;
-use sheet::RunsRead;
+use sheet::FieldsRead;
 use sheet::SheetRead;
 ghost use mathlib.Core.Path.{_≡_};
 ghost use Rattle.case_runs.specs.Call.{caseRefusal, caseRunsOf, imageLengthOf};
@@ -46,21 +45,13 @@ pub fn case_runs(sheet: &[u8], image: u64, pagefile: u64, out: &mut [u64]) -> Ca
 pub fn image_length(sheet: &[u8]) -> Written
     ensures { λ r. ⌜ r ≡ imageLengthOf (now (sheet .entry)) ⌝ }
 {
-    match sheet::read_header(sheet) {
-        HeaderRead::Refused(refusal) => base::not_written(refusal),
-        HeaderRead::Fields(header, at) => {
-            let mut rows = [0u64; 1];
-            let no_rows = 0;
-            match sheet::read_runs(sheet, at, header.count, &mut rows[..no_rows]) {
-                RunsRead::Refused(refusal) => base::not_written(refusal),
-                RunsRead::Laid(pages, end) => {
-                    if end != sheet.len() {
-                        return base::not_written(Refusal::TrailingBytes);
-                    }
-                    let length = 4096 * pages;
-                    Written { number: 0, length }
-                }
-            }
+    let mut rows = [0u64; 1];
+    let no_rows = 0;
+    match sheet::read_fields(sheet, &mut rows[..no_rows]) {
+        FieldsRead::Refused(refusal) => base::not_written(refusal),
+        FieldsRead::Fields(_, pages) => {
+            let length = 4096 * pages;
+            Written { number: 0, length }
         }
     }
 }

@@ -20,7 +20,7 @@ use Rattle.sheet.specs.Sheet.{spaceAt, header, runFrom, runsFrom, endOf,
 use Rattle.sheet.specs.Inner.{fewRuns}
 use Rattle.sheet.specs.declared.Header.{Header}
 use Rattle.sheet.specs.declared.Run.{Run}
-use Rattle.sheet.proofs.AcceptedCase.{Runs, runs-chain, Parts, sheet-parts}
+use Rattle.sheet.proofs.AcceptedCase.{Runs, runs-chain, OwnParts, sheet-parts}
 
 header-onward : (s : List ℕ) (h : Header) (next : ℕ) → header s 0 ≡ got h next → 3 ≤ next
 unfolding header
@@ -53,7 +53,7 @@ runs-onward (suc n) least end s at rs next e =
 
 pub few-bytes : (s : List ℕ) (image pagefile : ℕ) (t : Sheet) (next : ℕ) → sheetOf s image pagefile ≡ got t next → 3 + 2 * length (t .runs) ≤ length s
 few-bytes s image pagefile t next e =
-    let p = sheet-parts s image pagefile t next e in
+    let p = sheet-parts s image pagefile t next e .own in
     let many : length (t .runs) ≡ p .fields .count = runs-chain (p .fields .count) 0 0 s (p .at) (t .runs) (length s) (p .runs-read) .many in
     omega (arith, many, header-onward s (p .fields) (p .at) (p .header-read), runs-onward (p .fields .count) 0 0 s (p .at) (t .runs) (length s) (p .runs-read))
 
@@ -69,7 +69,7 @@ few-header s h next e f =
 
 pub few-runs : (s : List ℕ) (image pagefile : ℕ) (t : Sheet) (next : ℕ) → sheetOf s image pagefile ≡ got t next → fewRuns (editionFields s 0) ≡ true → length (t .runs) ≤ 32
 few-runs s image pagefile t next e f =
-    let p = sheet-parts s image pagefile t next e in
+    let p = sheet-parts s image pagefile t next e .own in
     let many : length (t .runs) ≡ p .fields .count = runs-chain (p .fields .count) 0 0 s (p .at) (t .runs) (length s) (p .runs-read) .many in
     omega (arith, many, few-header s (p .fields) (p .at) (p .header-read) f)
 

@@ -6,6 +6,7 @@ use lib.ListN.{length}
 use lib.Seq.{sets}
 use Rattle.varint.specs.Reader.{Read, got, refused}
 use Rattle.sheet.specs.Sheet.{Sheet, endOf}
+use Rattle.sheet.specs.declared.Header.{Header}
 use Rattle.sheet.specs.declared.Run.{Run}
 use Rattle.sheet.specs.declared.SheetRead.{SheetRead}
 use Rattle.sheet.specs.declared.SheetRead.the-variants.{Accepted, Refused}
@@ -15,8 +16,12 @@ abbrev pub rowsFrom : ℕ → List Run → List ℕ
 rowsFrom pages [] = []
 rowsFrom pages (r ∷ rs) = r .first .0 ∷ endOf r ∷ (r .first .0 - pages) ∷ rowsFrom (pages + r .pages) rs
 
+-- what a walk needs of a sheet beside its rows
+abbrev pub headerOf : Sheet → Header
+headerOf s = record { space = s .space; count = length (s .runs) }
+
 abbrev pub sheetRead : Read Sheet → SheetRead
-sheetRead (got s at) = Accepted (record { space = s .space; count = length (s .runs) })
+sheetRead (got s at) = Accepted (headerOf s)
 sheetRead (refused r) = Refused r
 
 -- the rows of an accepted sheet lie over the lent numbers; what a refused sheet leaves there is free

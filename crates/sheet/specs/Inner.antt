@@ -10,8 +10,8 @@ use Rattle.base.specs.Notation.{if_then_else_, within}
 use Rattle.base.specs.declared.Refusal.the-variants.{OutOfLimits, ImageLengthDiffers, PagefileNotWholePages}
 use Rattle.varint.specs.Reader.{Read, got, refused}
 use Rattle.varint.specs.Edition.{EditionFields}
-use Rattle.sheet.specs.Sheet.{spaceAt, endOf, runPages}
-use Rattle.sheet.specs.Call.{rowsFrom}
+use Rattle.sheet.specs.Sheet.{Sheet, spaceAt, endOf, runPages}
+use Rattle.sheet.specs.Call.{rowsFrom, headerOf}
 use Rattle.sheet.specs.declared.Header.{Header}
 use Rattle.sheet.specs.declared.HeaderRead.{HeaderRead}
 use Rattle.sheet.specs.declared.HeaderRead.the-variants as header-read
@@ -20,6 +20,8 @@ use Rattle.sheet.specs.declared.RunRead.{RunRead}
 use Rattle.sheet.specs.declared.RunRead.the-variants as run-read
 use Rattle.sheet.specs.declared.RunsRead.{RunsRead}
 use Rattle.sheet.specs.declared.RunsRead.the-variants as runs-read
+use Rattle.sheet.specs.declared.FieldsRead.{FieldsRead}
+use Rattle.sheet.specs.declared.FieldsRead.the-variants as fields-read
 use Rattle.sheet.specs.declared.SheetRead.{SheetRead}
 use Rattle.sheet.specs.declared.SheetRead.the-variants as sheet-read
 
@@ -49,6 +51,11 @@ withRow rows i pages r = set (set (set rows (3 * i) (r .first .0)) (3 * i + 1) (
 abbrev pub RunsLaid : Read (List Run) → List ℕ → RunsRead → List ℕ → Type 0
 RunsLaid (got rs next) old r new = (r ≡ runs-read.Laid (runPages rs) next) × (new ≡ sets old 0 (rowsFrom 0 rs))
 RunsLaid (refused q) old r new = r ≡ runs-read.Refused q
+
+-- the fields that were read: what a walk needs of them, the pages of the runs, and their rows over the lent numbers
+abbrev pub FieldsLaid : Read Sheet → List ℕ → FieldsRead → List ℕ → Type 0
+FieldsLaid (got s at) old r new = (r ≡ fields-read.Fields (headerOf s) (runPages (s .runs))) × (new ≡ sets old 0 (rowsFrom 0 (s .runs)))
+FieldsLaid (refused q) old r new = r ≡ fields-read.Refused q
 
 -- the answer for fields that were read, the pages of the runs, and the two lengths
 abbrev pub lengthsRead : Header → ℕ → ℕ → ℕ → SheetRead

@@ -19,7 +19,7 @@ use Rattle.varint.proofs.Forms.{Bytes, Stands}
 use Rattle.varint.proofs.Fields.{field-below}
 use Rattle.varint.proofs.Standing.{number-at, drop-after, field-stands, FieldsStand, fields-stand}
 use Rattle.entry.specs.Pages.{frame}
-use Rattle.sheet.specs.Sheet.{spaceAt, header, endOf, runFrom, runsFrom, runPages, Sheet, sheetFields, sheetOf}
+use Rattle.sheet.specs.Sheet.{spaceAt, header, endOf, runFrom, runsFrom, runPages, Sheet, ownFields, sheetFields, sheetOf}
 use Rattle.sheet.specs.declared.AddressSpace.{AddressSpace}
 use Rattle.sheet.specs.declared.Header.{Header}
 use Rattle.sheet.specs.declared.Run.{Run}
@@ -66,7 +66,7 @@ runs-at (r ∷ rs) s at least end rest c w e =
 
 pub sheet-reads : (s : List ℕ) (t : Sheet) (image pagefile : ℕ) → s ≡ sheetBytes t → Keeps t → image ≡ 4096 * runPages (t .runs) → pagefile % 4096 ≡ 0
     → sheetOf s image pagefile ≡ got t (length s)
-unfolding sheetOf sheetFields header editionFields edition sheetBytes headerBytes
+unfolding sheetOf sheetFields ownFields header editionFields edition sheetBytes headerBytes
 sheet-reads s t image pagefile e k i p =
     let directory = t .space .directory .0 in
     let count = length (t .runs) in
@@ -169,7 +169,7 @@ pub record SheetForm (s : List ℕ) (t : Sheet) : Type 0 where
 pub sheet-form : (s : List ℕ) (image pagefile : ℕ) (t : Sheet) (at : ℕ) → Bytes s → sheetOf s image pagefile ≡ got t at → SheetForm s t
 unfolding sheetBytes
 sheet-form s image pagefile t at b e =
-    let p = sheet-parts s image pagefile t at e in
+    let p = sheet-parts s image pagefile t at e .own in
     let laws = accepted-laws s image pagefile t at e in
     let many : length (t .runs) ≡ p .fields .count = runs-chain (p .fields .count) 0 0 s (p .at) (t .runs) (length s) (p .runs-read) .many in
     let runs = runs-form (p .fields .count) s (p .at) 0 0 (t .runs) (length s) b (p .runs-read) in

@@ -1,12 +1,11 @@
--- The header, the runs, the end, the lengths: each step is one of the definition.
-use Rattle.sheet.proofs.AcceptedCase.{header-fields}
-use Rattle.sheet.proofs.WholeSheet.{fields-got, no-fields, runs-found, no-runs-found, total-pages, no-header, no-runs, trailing, checked}
+-- The fields, then the lengths: each step is one of the definition.
+use Rattle.sheet.proofs.WholeSheet.{fields-found, no-fields-found, total-pages, faulty, checked}
 use borrow.Author.Needs.{needs}
 use Rattle.sheet.proofs.read_sheet.Statement.{statement}
 use Rattle.sheet.proofs.read_sheet.Tie as tie
 
-read-header-requires : tie.Need-read-header-requires
-read-header-requires c κs = search needs
+read-fields-requires : tie.Need-read-fields-requires
+read-fields-requires c κs = search needs
 
 enum-known-refusal : tie.Need-enum-known-refusal
 enum-known-refusal c = search needs
@@ -14,68 +13,36 @@ enum-known-refusal c = search needs
 enum-known-header : tie.Need-enum-known-header
 enum-known-header c = search needs
 
-read-runs-requires : tie.Need-read-runs-requires
-read-runs-requires c κs = header-fields _ _ _ (fields-got _ _ _ _ (c .before .before .before .before .read-header .ensures) (c .before .before .header .given .1)) .most
+check-lengths-requires : tie.Need-check-lengths-requires
+check-lengths-requires c κs =
+    let at-fields = c .before .before .before .before .before in
+    total-pages _ _ _ _ _ (fields-found _ _ _ _ _ _ (at-fields .read-fields .ensures) (c .before .header .given .1))
 
-enum-known-refusal-2 : tie.Need-enum-known-refusal-2
-enum-known-refusal-2 c = search needs
+returns : tie.Need-returns
+returns c =
+    let at-fields = c .before .before .before .before .before in
+    faulty _ _ _ _ _ _ (no-fields-found _ _ _ _ _ (at-fields .read-fields .ensures) (c .before .refusal .given .1))
 
-enum-known-pages : tie.Need-enum-known-pages
-enum-known-pages c = search needs
+returns-2 : tie.Need-returns-2
+returns-2 c =
+    let at-fields = c .before .before .before .before .before .before in
+    rw (c .check-lengths .ensures) (checked _ _ _ _ _ _ _ (fields-found _ _ _ _ _ _ (at-fields .read-fields .ensures) (c .before .before .header .given .1)))
 
 same-length : tie.Need-same-length
 same-length c = search needs
 
-returns : tie.Need-returns
-returns c =
-    let at-runs = c .before .before .before .before .before .before in
-    let at-header = at-runs .before .before .before in
-    trailing _ _ _ _ _ _ _ (fields-got _ _ _ _ (at-header .before .before .read-header .ensures) (at-header .header .given .1)) _ _
-    (runs-found _ _ _ _ _ _ (at-runs .read-runs .ensures) (c .before .before .pages .given .1)) (c .if1 .taken)
-
-check-lengths-requires : tie.Need-check-lengths-requires
-check-lengths-requires c κs =
-    let at-runs = c .before .before .before .before .before .before in
-    total-pages _ _ _ _ _ _ _ (runs-found _ _ _ _ _ _ (at-runs .read-runs .ensures) (c .before .before .pages .given .1))
-
-returns-2 : tie.Need-returns-2
-returns-2 c = no-header _ _ _ _ _ _ (no-fields _ _ _ (c .before .before .before .read-header .ensures) (c .before .refusal .given .1))
-
 same-length-2 : tie.Need-same-length-2
 same-length-2 c = search needs
-
-returns-3 : tie.Need-returns-3
-returns-3 c =
-    let at-runs = c .before .before .before .before .before in
-    let at-header = at-runs .before .before .before in
-    no-runs _ _ _ _ _ _ _ (fields-got _ _ _ _ (at-header .before .before .read-header .ensures) (at-header .header .given .1)) _
-    (no-runs-found _ _ _ _ _ (at-runs .read-runs .ensures) (c .before .refusal2 .given .1))
-
-same-length-3 : tie.Need-same-length-3
-same-length-3 c = search needs
-
-returns-4 : tie.Need-returns-4
-returns-4 c =
-    let at-runs = c .before .before .before .before .before .before .before in
-    let at-header = at-runs .before .before .before in
-    rw (c .check-lengths .ensures)
-    (checked _ _ _ _ _ _ _ (fields-got _ _ _ _ (at-header .before .before .read-header .ensures) (at-header .header .given .1)) _ _ (runs-found _ _ _ _ _ _ (at-runs .read-runs .ensures) (c .before .before .before .pages .given .1)) (c .before .if1 .left))
 
 pub read-sheet-spec : {M : Type 1} → statement M
 read-sheet-spec =
     tie.close
     (tie.spec
-    read-header-requires
+    read-fields-requires
     enum-known-refusal
     enum-known-header
-    read-runs-requires
-    enum-known-refusal-2
-    enum-known-pages
+    check-lengths-requires
     same-length
     returns
-    check-lengths-requires
-    returns-2
     same-length-2
-    returns-3
-    same-length-3
-    returns-4)
+    returns-2)
