@@ -17,11 +17,11 @@ use Rattle.sheet.specs.declared.Header.{Header}
 use Rattle.sheet.specs.declared.Run.{Run}
 use Rattle.sheet.specs.declared.SheetRead.{SheetRead}
 use Rattle.sheet.specs.declared.SheetRead.the-variants as sheet-read
+use Rattle.sheet.proofs.ManyRuns.{rows-length}
 use Rattle.sheet.proofs.AcceptedCase.{AcceptedCase, accepted-laws}
 use Rattle.sheet.proofs.Short.{few-bytes, few-runs}
 use Rattle.walk.specs.Walk.{World, worldOf, resolveOf, Grounded}
 use Rattle.walk.specs.Rows.{rowsWorld}
-use Rattle.walk.proofs.Ascending.{rows-length}
 use Rattle.walk.proofs.Ground.{Sound, grounded}
 use Rattle.walk.proofs.CaseWorld.{same-world, sound-case}
 use Rattle.case.specs.Case.{Case, checkOf}

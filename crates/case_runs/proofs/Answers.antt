@@ -15,11 +15,12 @@ use Rattle.sheet.specs.Call.{rowsFrom, sheetRead, SheetAnswer}
 use Rattle.sheet.specs.declared.Header.{Header}
 use Rattle.sheet.specs.declared.SheetRead.{SheetRead}
 use Rattle.sheet.specs.declared.SheetRead.the-variants as sheet-read
+use Rattle.sheet.proofs.ManyRuns.{rows-length}
 use Rattle.sheet.proofs.AcceptedCase.{AcceptedCase, accepted-laws}
 use Rattle.case_runs.specs.Call.{runNumbers, caseRefusal, caseRunsOf}
 use Rattle.case_runs.specs.Inner.{RowsInOrder, runsOfRows}
 use Rattle.case_runs.specs.declared.CaseRead.{CaseRead}
-use Rattle.case_runs.proofs.Rows.{rows-long, numbers-long, rows-in-order, rows-turned}
+use Rattle.case_runs.proofs.Rows.{numbers-long, rows-in-order, rows-turned}
 
 -- numbers laid over as many are those numbers
 laid-over : (old xs : List ℕ) → length xs ≡ length old → sets old 0 xs ≡ xs
@@ -111,10 +112,10 @@ module _ (bytes : List ℕ) (image pagefile : ℕ) (old last : List ℕ) (r : Sh
       rows-are =
           let laid : rows ≡ sets (take n (last ++ old)) 0 (rowsFrom 0 (q .sheet .runs)) = rw (q .check) at (p₂ .rows) in
           let long : length (take n (last ++ old)) ≡ n = length-take-le n (last ++ old) room in
-          laid ∙ laid-over (take n (last ++ old)) (rowsFrom 0 (q .sheet .runs)) (omega (arith, long, rows-long 0 (q .sheet .runs), q .many))
+          laid ∙ laid-over (take n (last ++ old)) (rowsFrom 0 (q .sheet .runs)) (omega (arith, long, rows-length 0 (q .sheet .runs), q .many))
 
       rows-many : length rows ≡ n
-      rows-many = omega (arith, ap length rows-are, rows-long 0 (q .sheet .runs), q .many)
+      rows-many = omega (arith, ap length rows-are, rows-length 0 (q .sheet .runs), q .many)
 
       front : take n (rows ++ drop n (last ++ old)) ≡ rowsFrom 0 (q .sheet .runs)
       front = take-at rows (drop n (last ++ old)) n rows-many ∙ rows-are

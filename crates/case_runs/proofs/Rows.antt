@@ -12,10 +12,6 @@ use Rattle.sheet.proofs.AcceptedCase.{Chain}
 use Rattle.case_runs.specs.Call.{runNumbers}
 use Rattle.case_runs.specs.Inner.{RowsInOrder, runsOfRows}
 
-pub rows-long : (pages : ℕ) (rs : List Run) → length (rowsFrom pages rs) ≡ 3 * length rs
-rows-long pages [] = refl
-rows-long pages (r ∷ rs) = omega (arith, rows-long (pages + r .pages) rs)
-
 pub numbers-long : (pages : ℕ) (rs : List Run) → length (runNumbers pages rs) ≡ 3 * length rs
 numbers-long pages [] = refl
 numbers-long pages (r ∷ rs) = omega (arith, numbers-long (pages + r .pages) rs)

@@ -49,8 +49,8 @@ use Rattle.walk.specs.Walk.{
   resolveOf,
   stop,
 }
-use Rattle.walk.specs.declared.ImagePage.{ImagePage}
-use Rattle.walk.specs.declared.ImagePage.the-variants.{Page, Absent}
+use Rattle.frames.specs.declared.ImagePage.{ImagePage}
+use Rattle.frames.specs.declared.ImagePage.the-variants.{Page, Absent}
 use Rattle.walk.specs.declared.Place.{Place}
 use Rattle.walk.specs.declared.Place.the-variants.{Image, Pagefile, Zeros, Refused}
 use Rattle.walk.proofs.Ground.{Sound}

@@ -6,14 +6,15 @@ use entry::Leaf;
 use entry::PageSize;
 use entry::PagefilePage;
 use entry::Upper;
+use frames::ImagePage;
 use sheet::AddressSpace;
 ghost use mathlib.Core.Path.{_≡_};
-ghost use Prim.Native.Nat.{_-_, _/_, _%_, _^_, _≤_, _<_};
+ghost use Prim.Native.Nat.{_/_, _%_, _^_, _≤_, _<_};
 ghost use lib.ListN.{length};
 ghost use Rattle.entry.specs.Entry.{levelOf};
 ghost use Rattle.walk.specs.Walk.{frameIn, inPage, pagefilePlace, settleOf, descendOf, wordOf, resolveOf};
-ghost use Rattle.walk.specs.Search.{searchOf, halvings};
-ghost use Rattle.walk.specs.Rows.{rowsPage, rowsWorld, TableInside, entryRead, descentOf, noTable, endedAfter, WordInside, refusedPlace, prototypeStep, resolvedOf};
+ghost use Rattle.frames.specs.Rows.{rowsPage};
+ghost use Rattle.walk.specs.Rows.{rowsWorld, TableInside, entryRead, descentOf, noTable, endedAfter, WordInside, refusedPlace, prototypeStep, resolvedOf};
 
 // 01 "One address": the lowest address bit of the index at each level, from the last up.
 const BIT_12: u64 = 0x1000;
@@ -27,18 +28,6 @@ const BIT_39: u64 = 0x8000000000;
 const PAGES_2M: u64 = 0x200;
 
 const PAGES_1G: u64 = 0x40000;
-
-// The image page of a frame.
-pub enum ImagePage {
-    Page(u64),
-    Absent,
-}
-
-// What a search for a frame found, and how many runs it looked at.
-pub struct Search {
-    pub page: ImagePage,
-    pub looks: u64,
-}
 
 // Where an address leads.
 pub enum Place {
@@ -64,58 +53,6 @@ pub struct Descent {
 pub struct Resolved {
     pub place: Place,
     pub entries: u64,
-}
-
-// The image page of a frame, by halving: `left` rows are in question, the first starts at `low`, the middle one at `row`.
-fn find_page(rows: &[u64], f: Frame) -> Search
-    ensures { λ r. ⌜ (r ≡ searchOf (now (rows .entry)) f) × (r .looks ≤ halvings (length (now (rows .entry)) / 3)) ⌝ }
-{
-    let n = f.number();
-    let mut low = 0;
-    let mut left = rows.len() / 3;
-    let mut row = 3 * (left / 2);
-    let mut looks = 0;
-    while 0 < left {
-        looks += 1;
-        if n < rows[row] {
-            left = left / 2;
-            row = low + 3 * (left / 2);
-        } else {
-            if n < rows[row + 1] {
-                let skipped = rows[row + 2];
-                let page = ImagePage::Page(saturating_sub(n, skipped));
-                return Search { page, looks };
-            }
-            low = row + 3;
-            left = (left - 1) / 2;
-            row = low + 3 * (left / 2);
-        }
-    }
-    let page = ImagePage::Absent;
-    Search { page, looks }
-}
-
-fn saturating_sub(n: u64, m: u64) -> u64
-    ensures { λ r. ⌜ r ≡ n - m ⌝ }
-{
-    if m <= n { n - m } else { 0 }
-}
-
-// The image page of a frame, where an image of `size` bytes has it.
-fn locate(rows: &[u64], size: u64, f: Frame) -> ImagePage
-    ensures { λ r. ⌜ r ≡ rowsPage (now (rows .entry)) size f ⌝ }
-{
-    let search = find_page(rows, f);
-    let found = search.page;
-    match found {
-        ImagePage::Absent => ImagePage::Absent,
-        ImagePage::Page(p) => {
-            if p < size / 4096 {
-                return ImagePage::Page(p);
-            }
-            ImagePage::Absent
-        }
-    }
 }
 
 // The index of an address in a table with `below` levels below it.
@@ -187,7 +124,7 @@ fn descend(rows: &[u64], image: &[u8], top: ImagePage, address: u64) -> Descent
                         return ended(Leaf::Settled(EntryPlace::Refused(refusal)), entries);
                     }
                     Upper::Table(f) => {
-                        table = locate(rows, size, f);
+                        table = frames::locate(rows, size, f);
                         below -= 1;
                     }
                 }
@@ -205,7 +142,7 @@ fn descend_from(rows: &[u64], image: &[u8], space: AddressSpace, address: u64) -
     ensures { λ r. ⌜ r ≡ descentOf (descendOf 3 (rowsPage (now (rows .entry)) (length (now (image .entry)))) (now (image .entry)) (rowsPage (now (rows .entry)) (length (now (image .entry))) (space .directory)) address) ⌝ }
 {
     let directory = space.directory;
-    let top = locate(rows, image.len() as u64, directory);
+    let top = frames::locate(rows, image.len() as u64, directory);
     descend(rows, image, top, address)
 }
 
@@ -230,7 +167,7 @@ fn in_frame(rows: &[u64], image: &[u8], f: Frame, address: u64) -> Place
     ensures { λ r. ⌜ r ≡ inPage address (rowsPage (now (rows .entry)) (length (now (image .entry))) f) ⌝ }
 {
     let size = image.len() as u64;
-    let found = locate(rows, size, f);
+    let found = frames::locate(rows, size, f);
     match found {
         ImagePage::Absent => Place::Refused(Refusal::FrameInNoRun),
         ImagePage::Page(p) => Place::Image(p * 4096 + address % 4096),

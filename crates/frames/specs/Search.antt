@@ -5,9 +5,9 @@ use lib.Dec.{ltb}
 use lib.ListN.{length, getD}
 use Rattle.base.specs.Notation.{if_then_else_}
 use Rattle.entry.specs.declared.Frame.{Frame}
-use Rattle.walk.specs.declared.ImagePage.{ImagePage}
-use Rattle.walk.specs.declared.ImagePage.the-variants.{Page, Absent}
-use Rattle.walk.specs.declared.Search.{Search}
+use Rattle.frames.specs.declared.ImagePage.{ImagePage}
+use Rattle.frames.specs.declared.ImagePage.the-variants.{Page, Absent}
+use Rattle.frames.specs.declared.Search.{Search}
 
 -- row i, three numbers: the first frame of a run, the frame after its last, and how many frames below it are in no run
 abbrev pub firstAt : List ℕ → ℕ → ℕ

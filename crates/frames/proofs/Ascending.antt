@@ -11,15 +11,11 @@ use Rattle.sheet.specs.Sheet.{endOf}
 use Rattle.sheet.specs.Call.{rowsFrom}
 use Rattle.sheet.specs.declared.Run.{Run}
 use Rattle.sheet.proofs.AcceptedCase.{Chain}
-use Rattle.walk.specs.Search.{firstAt, endAt, skippedAt, behind, searchIn}
-use Rattle.walk.specs.Walk.{pageFrom}
-use Rattle.walk.specs.declared.ImagePage.the-variants.{Page, Absent}
+use Rattle.frames.specs.Search.{firstAt, endAt, skippedAt, behind, searchIn}
+use Rattle.frames.specs.Runs.{pageFrom}
+use Rattle.frames.specs.declared.ImagePage.the-variants.{Page, Absent}
 
 -- ---- the rows of the runs
-
-pub rows-length : (pages : ℕ) (rs : List Run) → length (rowsFrom pages rs) ≡ 3 * length rs
-rows-length pages [] = refl
-rows-length pages (r ∷ rs) = omega (arith, rows-length (pages + r .pages) rs)
 
 module _ (a b c : ℕ) (rows : List ℕ) (i : ℕ) where
   three-on : (k : ℕ) → getD (a ∷ b ∷ c ∷ rows) (3 * suc i + k) 0 ≡ getD rows (3 * i + k) 0

@@ -11,9 +11,9 @@ use Rattle.entry.specs.Pages.{frame}
 use Rattle.entry.specs.declared.Frame.{Frame}
 use Rattle.sheet.specs.Call.{rowsFrom}
 use Rattle.sheet.specs.declared.Run.{Run}
-use Rattle.walk.specs.Search.{searched, after, searchIn, searchOf, halvingsIn, halvings}
-use Rattle.walk.specs.declared.ImagePage.the-variants.{Page, Absent}
-use Rattle.walk.specs.declared.Search.{Search}
+use Rattle.frames.specs.Search.{searched, after, searchIn, searchOf, halvingsIn, halvings}
+use Rattle.frames.specs.declared.ImagePage.the-variants.{Page, Absent}
+use Rattle.frames.specs.declared.Search.{Search}
 
 pub linear : List ℕ → Frame → Search
 linear [] f = searched Absent 0

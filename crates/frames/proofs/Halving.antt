@@ -11,10 +11,10 @@ use borrow.Author.Tests.{lt-ltb, le-ltb}
 use Rattle.base.specs.Notation.{if_then_else_}
 use Rattle.entry.specs.Pages.{frame}
 use Rattle.entry.specs.declared.Frame.{Frame}
-use Rattle.walk.specs.Search.{firstAt, endAt, skippedAt, searched, after, behind, searchIn, searchFrom, searchOf, halvingsIn, halvings}
-use Rattle.walk.specs.declared.ImagePage.{ImagePage}
-use Rattle.walk.specs.declared.ImagePage.the-variants.{Page, Absent}
-use Rattle.walk.specs.declared.Search.{Search}
+use Rattle.frames.specs.Search.{firstAt, endAt, skippedAt, searched, after, behind, searchIn, searchFrom, searchOf, halvingsIn, halvings}
+use Rattle.frames.specs.declared.ImagePage.{ImagePage}
+use Rattle.frames.specs.declared.ImagePage.the-variants.{Page, Absent}
+use Rattle.frames.specs.declared.Search.{Search}
 
 -- ---- a look leaves the rows before the middle one or those behind it
 

@@ -1,0 +1,5 @@
+pub mod Halving
+pub mod Ascending
+pub mod CaseLookup
+pub mod Guard
+pub mod LinearSearch
