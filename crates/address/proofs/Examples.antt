@@ -8,7 +8,7 @@ use Rattle.sheet.specs.Sheet.{Sheet}
 use Rattle.entry.specs.Addresses.{reachable}
 use Rattle.walk.specs.Walk.{resolveOf}
 use Rattle.case.specs.Case.{Case, checkOf, byCheck, inCase}
-use Rattle.case.specs.Answer.{answerOf, refusal}
+use Rattle.case.specs.Answer.{answerOf, faultAnswer}
 use Rattle.case.specs.declared.Answer.{Answer}
 use Rattle.address.specs.Call.{addressOf}
 use Rattle.address.specs.Line.{decimalOf, lineOf}
@@ -17,7 +17,7 @@ abbrev answer : ℕ → ℕ → ℕ → Answer
 answer number offset entries = record { number = number; offset = offset; entries = entries }
 
 Accepted : Case → Type 0
-Accepted c = inCase c (λ r. ⊥) (λ w. Unit {0})
+Accepted c = inCase c (λ f. ⊥) (λ w. Unit {0})
 
 -- `20 0 0` and a newline
 pub p4 : List Example
@@ -30,7 +30,7 @@ not-canonical : (c : Case) → Accepted c → addressOf c 0x0000800000000000 ≡
 unfolding Accepted addressOf resolveOf reachable
 not-canonical c = go (checkOf c)
   where
-    go : (d : Read Sheet) → byCheck c (λ r. ⊥) (λ w. Unit {0}) d → byCheck c refusal (λ w. answerOf (resolveOf 3 w 0x0000800000000000)) d ≡ answer 20 0 0
+    go : (d : Read Sheet) → byCheck c (λ f. ⊥) (λ w. Unit {0}) d → byCheck c faultAnswer (λ w. answerOf (resolveOf 3 w 0x0000800000000000)) d ≡ answer 20 0 0
     go (got s at) h = refl
     go (refused r) h = absurd h
 

@@ -4,14 +4,14 @@ use mathlib.Core.List.{List}
 use Prim.Native.Nat.{ℕ}
 use Rattle.walk.specs.Walk.{resolveOf}
 use Rattle.case.specs.Case.{Case, inCase}
-use Rattle.case.specs.Answer.{answerOf, refusal, GroundedAt}
+use Rattle.case.specs.Answer.{answerOf, faultAnswer, GroundedAt}
 use Rattle.case.specs.declared.Answer.{Answer}
 use Rattle.address.specs.Page.{noPart, partOf, partBytes, PartInside, PageLies}
 use Rattle.address.specs.declared.Part.{Part}
 
 -- the address call
 unfoldable pub addressOf : Case → ℕ → Answer
-addressOf c a = inCase c refusal (λ w. answerOf (resolveOf 3 w a))
+addressOf c a = inCase c faultAnswer (λ w. answerOf (resolveOf 3 w a))
 
 -- the answer, and that it rests on what the files hold
 pub record AddressAnswer (c : Case) (a : ℕ) (r : Answer) : Type 0 where
@@ -20,7 +20,7 @@ pub record AddressAnswer (c : Case) (a : ℕ) (r : Answer) : Type 0 where
 
 -- where the page lies
 unfoldable pub pagePart : Case → ℕ → Part
-pagePart c a = inCase c (λ r. noPart) (λ w. partOf (resolveOf 3 w a .place))
+pagePart c a = inCase c (λ f. noPart) (λ w. partOf (resolveOf 3 w a .place))
 
 -- the place, that it lies in its file, and that it rests on what the files hold
 pub record PageAnswer (c : Case) (a : ℕ) (r : Part) : Type 0 where

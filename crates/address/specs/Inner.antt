@@ -1,17 +1,14 @@
--- Where an address of a case leads, whether the case is accepted or not.
-use mathlib.Core.Path.{_≡_}
-use Prim.Native.Nat.{ℕ}
-use Rattle.walk.specs.Walk.{Walked, resolveOf, stop}
-use Rattle.walk.specs.Rows.{resolvedOf}
-use Rattle.walk.specs.declared.Place.the-variants.{Refused}
-use Rattle.walk.specs.declared.Resolved.{Resolved}
-use Rattle.case.specs.Case.{Case, inCase}
-use Rattle.case.specs.Answer.{GroundedAt}
+-- The page of an address, by the answer for it.
+use Prim.Native.Nat.{_*_, _/_}
+use lib.Dec.{eqb}
+use Rattle.base.specs.Notation.{if_then_else_}
+use Rattle.case.specs.declared.Answer.{Answer}
+use Rattle.address.specs.Page.{noPart}
+use Rattle.address.specs.declared.Part.{Part}
 
--- a refused case is a refused place, and no entry is read
-abbrev pub caseWalk : Case → ℕ → Walked
-caseWalk c a = inCase c (λ r. stop (Refused r)) (λ w. resolveOf 3 w a)
-
-pub record Finds (c : Case) (a : ℕ) (r : Resolved) : Type 0 where
-  pub same : r ≡ resolvedOf (caseWalk c a)
-  pub grounded : GroundedAt c a
+-- the page that holds the offset, in the file that the number names
+abbrev pub partAt : Answer → Part
+partAt r =
+    if eqb (r .number) 1 then record { file = 1; offset = r .offset / 4096 * 4096; length = 4096 } else
+    if eqb (r .number) 2 then record { file = 2; offset = r .offset / 4096 * 4096; length = 4096 } else
+    noPart

@@ -6,7 +6,7 @@ use Prim.Native.Nat.{ℕ, zero, suc, _+_, _*_, _≤_}
 use native.Mathlib.Omega.{arith}
 use lib.ListN.{length, take}
 use lib.Seq.{sets, sets-eq, take-at}
-use Rattle.base.specs.declared.Refusal.{Refusal}
+use Rattle.base.specs.declared.Fault.{Fault}
 use Rattle.varint.specs.Reader.{Read, got, refused}
 use Rattle.varint.specs.Edition.{editionFields}
 use Rattle.sheet.specs.Sheet.{Sheet, sheetOf}
@@ -51,7 +51,7 @@ sheet-accepted c old v new h q f = record { same = go (checkOf c) (sym (q .same)
         ap (λ (x : Header). Ready (x .space) (3 * x .count)) (sym own)
     go (refused r) k = absurd (let z : _≡_ {A = ℕ} 0 1 = cc in omega arith)
 
-pub sheet-refused : (c : Case) (old : List ℕ) (v : SheetRead) (new : List ℕ) (r : Refusal) → SheetAnswer (checkOf c) old v new → v ≡ sheet-read.Refused r → Opens c old (Refused r) new
+pub sheet-refused : (c : Case) (old : List ℕ) (v : SheetRead) (new : List ℕ) (r : Fault) → SheetAnswer (checkOf c) old v new → v ≡ sheet-read.Refused r → Opens c old (Refused r) new
 sheet-refused c old v new r q f = record { same = go (checkOf c) (sym (q .same) ∙ f); rows = q .rows }
   where
     go : (d : Read Sheet) → sheetRead d ≡ sheet-read.Refused r → Refused r ≡ openedOf d
@@ -60,7 +60,7 @@ sheet-refused c old v new r q f = record { same = go (checkOf c) (sym (q .same) 
 
 -- ---- its callers
 
-pub refused-case : (c : Case) (old : List ℕ) (v : Opened) (new : List ℕ) (r : Refusal) → Opens c old v new → v ≡ Refused r → checkOf c ≡ refused r
+pub refused-case : (c : Case) (old : List ℕ) (v : Opened) (new : List ℕ) (r : Fault) → Opens c old v new → v ≡ Refused r → checkOf c ≡ refused r
 refused-case c old v new r q f = go (checkOf c) (sym (q .same) ∙ f)
   where
     go : (d : Read Sheet) → openedOf d ≡ Refused r → d ≡ refused r
@@ -129,7 +129,7 @@ accepted-case c old v new space n h q f = go (checkOf c) refl (q .rows) (sym (q 
         }
     go (refused r) g l k = absurd (let z : _≡_ {A = ℕ} 0 1 = cc in omega arith)
 
-pub refused-grounded : (c : Case) (r : Refusal) → checkOf c ≡ refused r → (a : ℕ) → GroundedAt c a
+pub refused-grounded : (c : Case) (r : Fault) → checkOf c ≡ refused r → (a : ℕ) → GroundedAt c a
 refused-grounded c r e a = rw e tt
 
 pub accepted-grounded : (c : Case) (space : AddressSpace) (n : ℕ) (rows : List ℕ) (q : Accepted c space n rows) (a : ℕ) → GroundedAt c a

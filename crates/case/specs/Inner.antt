@@ -13,7 +13,7 @@ use Rattle.case.specs.declared.Opened.the-variants.{Ready, Refused}
 -- how many numbers the rows of a case take: three a run
 abbrev pub numbersOf : Read Sheet → ℕ
 numbersOf (got s at) = 3 * length (s .runs)
-numbersOf (refused r) = 0
+numbersOf (refused f) = 0
 
 abbrev pub rowNumbers : Case → ℕ
 rowNumbers c = numbersOf (checkOf c)
@@ -21,7 +21,7 @@ rowNumbers c = numbersOf (checkOf c)
 -- the address space of an accepted case, and how many numbers its rows take
 abbrev pub openedOf : Read Sheet → Opened
 openedOf (got s at) = Ready (s .space) (3 * length (s .runs))
-openedOf (refused r) = Refused r
+openedOf (refused f) = Refused f
 
 -- the rows of an accepted case lie over the lent numbers
 pub record Opens (c : Case) (old : List ℕ) (r : Opened) (new : List ℕ) : Type 0 where

@@ -1,4 +1,5 @@
 // What every call on a case shares: opening the case, and the answer for an address.
+use base::Fault;
 use base::Refusal;
 use sheet::AddressSpace;
 use sheet::SheetRead;
@@ -6,7 +7,7 @@ use walk::Place;
 use walk::Resolved;
 ghost use mathlib.Core.Path.{_≡_};
 ghost use Rattle.case.specs.Case.{caseOf};
-ghost use Rattle.case.specs.Answer.{placeAnswer, refusal};
+ghost use Rattle.case.specs.Answer.{placeAnswer, refusal, faultAnswer};
 ghost use Rattle.case.specs.Inner.{Opens};
 
 // 01's number, the addressed byte's offset in its file, and the entries read.
@@ -17,10 +18,10 @@ pub struct Answer {
     pub entries: u64,
 }
 
-// The address space of an accepted case and how many numbers its rows take, or the refusal.
+// The address space of an accepted case and how many numbers its rows take, or what is at fault.
 pub enum Opened {
     Ready(AddressSpace, usize),
-    Refused(Refusal),
+    Refused(Fault),
 }
 
 // Checks the sheet and the two lengths, and lays the rows of the runs over the lent numbers.
@@ -28,7 +29,7 @@ pub fn open_case(sheet: &[u8], image: &[u8], pagefile: &[u8], rows: &mut [u64]) 
     ensures { λ r. ⌜ Opens (caseOf (now (sheet .entry)) (now (image .entry)) (now (pagefile .entry))) (now (rows .entry)) r (now (rows .exit)) ⌝ }
 {
     match sheet::read_sheet(sheet, image.len() as u64, pagefile.len() as u64, rows) {
-        SheetRead::Refused(refusal) => Opened::Refused(refusal),
+        SheetRead::Refused(fault) => Opened::Refused(fault),
         SheetRead::Accepted(header) => {
             let space = header.space;
             Opened::Ready(space, 3 * header.count)
@@ -42,6 +43,18 @@ pub fn refuse(r: Refusal) -> Answer
     Answer {
         number: r.number(),
         offset: 0,
+        entries: 0,
+    }
+}
+
+// The same for a sheet at fault.
+pub fn fault_answer(fault: Fault) -> Answer
+    ensures { λ a. ⌜ a ≡ faultAnswer fault ⌝ }
+{
+    let refusal = fault.refusal;
+    Answer {
+        number: refusal.number(),
+        offset: fault.shown_position(),
         entries: 0,
     }
 }

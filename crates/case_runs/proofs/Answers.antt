@@ -7,7 +7,7 @@ use native.Mathlib.Omega.{arith}
 use lib.ListN.{length, take, drop}
 use lib.Seq.{sets, sets-eq, take-at, drop-at, length-take-le, drop-length}
 use borrow.Author.Tests.{lt-ltb, le-ltb}
-use Rattle.base.specs.declared.Refusal.{Refusal}
+use Rattle.base.specs.declared.Fault.{Fault}
 use Rattle.base.specs.declared.Refusal.the-variants.{ListBufferShort}
 use Rattle.varint.specs.Reader.{Read, got, refused}
 use Rattle.sheet.specs.Sheet.{Sheet, sheetOf}
@@ -17,7 +17,7 @@ use Rattle.sheet.specs.declared.SheetRead.{SheetRead}
 use Rattle.sheet.specs.declared.SheetRead.the-variants as sheet-read
 use Rattle.sheet.proofs.ManyRuns.{rows-length}
 use Rattle.sheet.proofs.AcceptedCase.{AcceptedCase, accepted-laws}
-use Rattle.case_runs.specs.Call.{runNumbers, caseRefusal, caseRunsOf}
+use Rattle.case_runs.specs.Call.{runNumbers, caseRefusal, faultCase, caseRunsOf}
 use Rattle.case_runs.specs.Inner.{RowsInOrder, runsOfRows}
 use Rattle.case_runs.specs.declared.CaseRead.{CaseRead}
 use Rattle.case_runs.proofs.Rows.{numbers-long, rows-in-order, rows-turned}
@@ -72,7 +72,7 @@ module _ (bytes : List ℕ) (image pagefile : ℕ) (part : List ℕ) (r : SheetR
           }
       go (refused x) e g = absurd (let z : _≡_ {A = ℕ} 0 1 = cc in omega arith)
 
-  refuses : (x : Refusal) → r ≡ sheet-read.Refused x → sheetOf bytes image pagefile ≡ refused x
+  refuses : (x : Fault) → r ≡ sheet-read.Refused x → sheetOf bytes image pagefile ≡ refused x
   refuses x f = go (sheetOf bytes image pagefile) (sym (p .same) ∙ f)
     where
       go : (d : Read Sheet) → sheetRead d ≡ sheet-read.Refused x → d ≡ refused x
@@ -90,7 +90,7 @@ module _ (bytes : List ℕ) (image pagefile : ℕ) (old last : List ℕ) (r : Sh
       go [] e = refl
       go (x ∷ l) e = absurd (omega (arith, e))
 
-  pub refused-sheet : (x : Refusal) → r ≡ sheet-read.Refused x → (a : CaseRead) → a ≡ caseRefusal x → record { answer = a; buffer = last ++ old } ≡ caseRunsOf bytes image pagefile old
+  pub refused-sheet : (x : Fault) → r ≡ sheet-read.Refused x → (a : CaseRead) → a ≡ faultCase x → record { answer = a; buffer = last ++ old } ≡ caseRunsOf bytes image pagefile old
   unfolding caseRunsOf
   refused-sheet x f a g = rw (refuses bytes image pagefile [] r last p x f, g, whole)
 

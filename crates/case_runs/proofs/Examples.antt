@@ -5,6 +5,7 @@ use Prim.Native.Nat.{ℕ}
 use Rattle.base.specs.Example.{Example, same, Hold}
 use Rattle.varint.specs.Groups.{decode, number}
 use Rattle.varint.specs.Edition.{edition, editionFields}
+use Rattle.base.specs.Refusal.{shownPosition}
 use Rattle.sheet.specs.Sheet.{header, runFrom, runsFrom, ownFields, sheetFields, sheetOf}
 use Rattle.base.specs.declared.Written.{Written}
 use Rattle.case_runs.specs.Call.{CaseOutcome, caseRunsOf, imageBytes, imageLengthOf}
@@ -41,9 +42,9 @@ lengths =
     ∷ []
 
 pub cases-hold : Hold cases
-unfolding cases p1-bytes five outcome caseRunsOf sheetOf sheetFields ownFields header editionFields edition runsFrom runFrom number decode
+unfolding cases p1-bytes five outcome shownPosition caseRunsOf sheetOf sheetFields ownFields header editionFields edition runsFrom runFrom number decode
 cases-hold = (refl, (refl, (refl, (refl, (refl, (refl, tt))))))
 
 pub lengths-hold : Hold lengths
-unfolding lengths p1-bytes length-of imageLengthOf imageBytes ownFields header editionFields edition runsFrom runFrom number decode
+unfolding lengths p1-bytes length-of shownPosition imageLengthOf imageBytes ownFields header editionFields edition runsFrom runFrom number decode
 lengths-hold = (refl, (refl, (refl, tt)))

@@ -1,5 +1,6 @@
 -- The length that a sheet asks of its image, step by step; and how it goes with the check of a case.
 use mathlib.Core.Path.{_≡_, refl, sym, ap, _∙_}
+use mathlib.Core.Logic.{_⊎_, inl, inr}
 use mathlib.Core.List.{List}
 use mathlib.Core.Bool.{Bool, true, false, not}
 use Prim.Native.Nat.{ℕ, _*_, _%_, _≤_}
@@ -8,17 +9,17 @@ use lib.Dec.{eqb}
 use borrow.Author.Tests.{eqb-false}
 use Rattle.base.specs.Notation.{if_then_else_}
 use Rattle.base.specs.Refusal.{refusalNumber}
-use Rattle.base.specs.Written.{notWritten}
-use Rattle.base.specs.declared.Refusal.{Refusal}
+use Rattle.base.specs.Written.{faultWritten}
+use Rattle.base.specs.declared.Fault.{Fault}
 use Rattle.base.specs.declared.Written.{Written}
 use Rattle.varint.specs.Reader.{Read, got, refused}
 use Rattle.sheet.specs.Sheet.{runPages, Sheet, ownFields, sheetFields, sheetOf}
 use Rattle.sheet.specs.declared.Header.{Header}
 use Rattle.sheet.proofs.WholeSheet.{FieldsFound}
 use Rattle.case_runs.specs.Call.{imageBytes, imageLengthOf}
-use Rattle.case_runs.proofs.Faults.{OwnFault, own-faults}
+use Rattle.case_runs.proofs.Faults.{Own, OwnFault, own-faults}
 
-pub no-length : (s : List ℕ) (r : Refusal) → ownFields s 0 ≡ refused r → (w : Written) → w ≡ notWritten r → w ≡ imageLengthOf s
+pub no-length : (s : List ℕ) (r : Fault) → ownFields s 0 ≡ refused r → (w : Written) → w ≡ faultWritten r → w ≡ imageLengthOf s
 unfolding imageLengthOf imageBytes
 no-length s r e w g = rw (e, g)
 
@@ -30,11 +31,11 @@ asked s old h pages new q = rw (q .field, q .total)
 
 abbrev pub sheet-number : Read Sheet → ℕ
 sheet-number (got t at) = 0
-sheet-number (refused r) = refusalNumber r
+sheet-number (refused f) = refusalNumber (f .refusal)
 
 -- the sheet's own fault; 15 exactly if the image has another length; then 16
 abbrev pub by-length : ℕ → ℕ → Read ℕ → ℕ
-by-length image pagefile (refused r) = refusalNumber r
+by-length image pagefile (refused f) = refusalNumber (f .refusal)
 by-length image pagefile (got n at) = if not (eqb image n) then 15 else if not (eqb (pagefile % 4096) 0) then 16 else 0
 
 module _ (s : List ℕ) (image pagefile : ℕ) where
@@ -75,6 +76,10 @@ fifteen s image pagefile e = go (imageBytes s 0) refl (own-faults s 0) (sym (cas
     at-length n at true f x g = absurd (two (eqb (pagefile % 4096) 0) g)
     at-length n at false f x g = record { bytes = n; at = at; asked = f; other = eqb-false image n x }
 
+    apart : {n : ℕ} → Own n → n ≡ 15 → ⊥
+    apart (inl h) g = omega (arith, h, g)
+    apart (inr h) g = omega (arith, h, g)
+
     go : (d : Read ℕ) → imageBytes s 0 ≡ d → OwnFault d → by-length image pagefile d ≡ 15 → AsksAnother s image
     go (got n at) f h g = at-length n at (eqb image n) f refl g
-    go (refused r) f h g = absurd (omega (arith, h, g))
+    go (refused r) f h g = absurd (apart h g)

@@ -5,10 +5,11 @@ use lib.Dec.{ltb}
 use lib.ListN.{length}
 use lib.Seq.{sets}
 use Rattle.base.specs.Notation.{if_then_else_}
-use Rattle.base.specs.Refusal.{refusalNumber}
+use Rattle.base.specs.Refusal.{refusalNumber, shownPosition}
+use Rattle.base.specs.declared.Fault.{Fault}
 use Rattle.base.specs.declared.Refusal.{Refusal}
 use Rattle.base.specs.declared.Refusal.the-variants.{ListBufferShort}
-use Rattle.base.specs.Written.{notWritten}
+use Rattle.base.specs.Written.{faultWritten}
 use Rattle.base.specs.declared.Written.{Written}
 use Rattle.varint.specs.Reader.{Read, got, refused, Reader, _>>=_, return}
 use Rattle.sheet.specs.Sheet.{runPages, Sheet, ownFields, sheetOf}
@@ -28,6 +29,10 @@ pub record CaseOutcome : Type 0 where
 abbrev pub caseRefusal : Refusal → CaseRead
 caseRefusal r = record { number = refusalNumber r; directory = 0; length = 0 }
 
+-- a sheet at fault
+abbrev pub faultCase : Fault → CaseRead
+faultCase f = record { number = refusalNumber (f .refusal); directory = 0; length = shownPosition f }
+
 -- a refusal leaves the buffer as it was lent
 abbrev pub unlisted : List ℕ → Refusal → CaseOutcome
 unlisted out r = record { answer = caseRefusal r; buffer = out }
@@ -42,7 +47,7 @@ listed out s =
     }
 
 abbrev pub checkedRuns : List ℕ → Read Sheet → CaseOutcome
-checkedRuns out (refused r) = unlisted out r
+checkedRuns out (refused f) = record { answer = faultCase f; buffer = out }
 checkedRuns out (got s at) = listed out s
 
 -- the sheet and the two lengths are checked first
@@ -57,7 +62,7 @@ imageBytes = do
 
 abbrev pub lengthRead : Read ℕ → Written
 lengthRead (got n at) = record { number = 0; length = n }
-lengthRead (refused r) = notWritten r
+lengthRead (refused f) = faultWritten f
 
 unfoldable pub imageLengthOf : List ℕ → Written
 imageLengthOf bytes = lengthRead (imageBytes bytes 0)

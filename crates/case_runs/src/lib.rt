@@ -1,10 +1,11 @@
 // What a case's sheet says, in numbers: the directory page, and where each run lies in physical memory and in the image.
+use base::Fault;
 use base::Refusal;
 use base::Written;
 use sheet::FieldsRead;
 use sheet::SheetRead;
 ghost use mathlib.Core.Path.{_≡_};
-ghost use Rattle.case_runs.specs.Call.{caseRefusal, caseRunsOf, imageLengthOf};
+ghost use Rattle.case_runs.specs.Call.{caseRefusal, faultCase, caseRunsOf, imageLengthOf};
 ghost use Rattle.case_runs.specs.Inner.{RowsInOrder, runsOfRows};
 
 // 01's number, or 53 for a buffer too short; the directory page and how many runs there are.
@@ -21,7 +22,7 @@ pub fn case_runs(sheet: &[u8], image: u64, pagefile: u64, out: &mut [u64]) -> Ca
 {
     let none = 0;
     match sheet::read_sheet(sheet, image, pagefile, &mut out[..none]) {
-        SheetRead::Refused(refusal) => refuse(refusal),
+        SheetRead::Refused(fault) => fault_case(fault),
         SheetRead::Accepted(header) => {
             let count = header.count;
             if out.len() / 3 < count {
@@ -48,7 +49,7 @@ pub fn image_length(sheet: &[u8]) -> Written
     let mut rows = [0u64; 1];
     let no_rows = 0;
     match sheet::read_fields(sheet, &mut rows[..no_rows]) {
-        FieldsRead::Refused(refusal) => base::not_written(refusal),
+        FieldsRead::Refused(fault) => base::fault_written(fault),
         FieldsRead::Fields(_, pages) => {
             let length = 4096 * pages;
             Written { number: 0, length }
@@ -63,6 +64,18 @@ fn refuse(refusal: Refusal) -> CaseRead
         number: refusal.number(),
         directory: 0,
         length: 0,
+    }
+}
+
+// The same for a sheet at fault.
+fn fault_case(fault: Fault) -> CaseRead
+    ensures { λ r. ⌜ r ≡ faultCase fault ⌝ }
+{
+    let refusal = fault.refusal;
+    CaseRead {
+        number: refusal.number(),
+        directory: 0,
+        length: fault.shown_position(),
     }
 }
 

@@ -1,6 +1,7 @@
 // Checks sheets from standard input, for the differential test. A record is the image's length, the pagefile's
 // length and the sheet's length, 8 bytes each and little-endian, then the sheet, of at most 12,009 bytes.
-// A refused sheet prints its number; an accepted one 0, the directory page, the number of runs, and each run's first frame and pages.
+// A refused sheet prints its number, and for 11 and 18 the position; an accepted one 0, the directory page, the number of runs, and each run's first frame and pages.
+use base::Fault;
 use libc::STDIN_FILENO;
 use libc::STDOUT_FILENO;
 use sheet::Header;
@@ -41,14 +42,23 @@ fn check_one(image: u64, pagefile: u64, bytes: &mut [u8]) -> bool {
     }
     let mut rows = [0u64; 3000];
     match sheet::read_sheet(bytes, image, pagefile, &mut rows) {
-        SheetRead::Refused(refusal) => {
-            io::print_decimal(STDOUT_FILENO, refusal.number());
+        SheetRead::Refused(fault) => {
+            print_fault(fault);
         }
         SheetRead::Accepted(header) => {
             print_case(header, &rows);
         }
     }
     io::write_all(STDOUT_FILENO, b"\n")
+}
+
+fn print_fault(fault: Fault) {
+    let refusal = fault.refusal;
+    let number = refusal.number();
+    io::print_decimal(STDOUT_FILENO, number);
+    if number == 11 || number == 18 {
+        print_next(fault.shown_position());
+    }
 }
 
 fn print_case(header: Header, rows: &[u64; 3000]) {

@@ -32,7 +32,7 @@ page-in-range h page e =
     omega (arith, leb-true (h .start .0) (page .0) (t .0), ltb-true (page .0) (h .start .0 + h .count) (t .1))
 
 numbered : (a : ℕ) (d : Read Map) → ((m : Map) (at : ℕ) → d ≡ got m at → Covering (m .header .count) (m .extents)) → Numbered (lookupRead a d)
-numbered a (refused r) q = inr (ten-or-more r)
+numbered a (refused f) q = inr (ten-or-more (f .refusal))
 numbered a (got m at) q = go (canonical a) (inRange (m .header) (virtualPageOf a)) refl
   where
     go : (b c : Bool) → inRange (m .header) (virtualPageOf a) ≡ c

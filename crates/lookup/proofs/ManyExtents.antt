@@ -9,7 +9,8 @@ use lib.Dec.{ltb, eqb}
 use lib.ListN.{length}
 use borrow.Author.Tests.{lt-ltb, le-ltb, le-leb, lt-leb, eq-eqb, ne-eqb}
 use Rattle.base.specs.Notation.{if_then_else_}
-use Rattle.base.specs.declared.Refusal.{Refusal}
+use Rattle.base.specs.Refusal.{unplaced}
+use Rattle.base.specs.declared.Fault.{Fault}
 use Rattle.base.specs.declared.Refusal.the-variants.{TrailingBytes}
 use Rattle.base.proofs.Test.{Test, test, below, above}
 use Rattle.varint.specs.Reader.{Read, got, refused, after, return}
@@ -45,7 +46,7 @@ abbrev answerAfter : MappedPage → ℕ → ℕ → List Extent → MappedPage
 answerAfter old done k es = if ltb k done then old else pageAt es (k - done)
 
 abbrev readAfter : List ℕ → MappedPage → ℕ → ℕ → Read (List Extent) → PageRead
-readAfter s old done k (got es at) = if eqb at (length s) then Answered (answerAfter old done k es) else Refused TrailingBytes
+readAfter s old done k (got es at) = if eqb at (length s) then Answered (answerAfter old done k es) else Refused (unplaced TrailingBytes)
 readAfter s old done k (refused r) = Refused r
 
 page-none : (s : List ℕ) (old : MappedPage) (k : ℕ) (d : Read (List Extent)) → pageOfRead s k d ≡ readAfter s old 0 k d
@@ -66,7 +67,7 @@ answer-more old done k e es = go (test k done) (test (k - done) (e .pages))
 -- one extent more is noted, or still to come
 page-more : (s : List ℕ) (old : MappedPage) (done k : ℕ) (e : Extent) (d : Read (List Extent))
     → readAfter s old done k (after s (λ (es : List Extent). return (e ∷ es)) d) ≡ readAfter s (noteOf old done k e) (done + e .pages) k d
-page-more s old done k e (got es at) = ap (λ (p : MappedPage). if eqb at (length s) then Answered p else Refused TrailingBytes) (answer-more old done k e es)
+page-more s old done k e (got es at) = ap (λ (p : MappedPage). if eqb at (length s) then Answered p else Refused (unplaced TrailingBytes)) (answer-more old done k e es)
 page-more s old done k e (refused r) = refl
 
 after-below : (left : ℕ) (e : Extent) (n : ℕ) → WithPagesLeft left e → n < e .pages → (b : Bool) → (if b then e .first + n else e .first) < 2 ^ 36
@@ -90,7 +91,7 @@ module _ (n left : ℕ) (prev : Extent) (s : List ℕ) (at : ℕ) where
   unfolding extentsFrom
   read-more h e next w = rw (ne-eqb left 0 h, w)
 
-  read-bad : (left ≡ 0 → ⊥) → (r : Refusal) → extentFrom left prev s at ≡ refused r → extentsFrom (suc n) left prev s at ≡ refused r
+  read-bad : (left ≡ 0 → ⊥) → (r : Fault) → extentFrom left prev s at ≡ refused r → extentsFrom (suc n) left prev s at ≡ refused r
   unfolding extentsFrom
   read-bad h r w = rw (ne-eqb left 0 h, w)
 
@@ -130,7 +131,7 @@ module _ {s : List ℕ} {from count k at left : ℕ} {prev : Extent} {old : Mapp
     one-left : q .fuel ≡ suc (q .fuel - 1)
     one-left = suc-pred (q .fuel) left h (q .enough)
 
-    pub no-extent-read : (r : Refusal) → extentFrom left prev s at ≡ refused r → Refused r ≡ pageOfRead s k (extentsFrom count count noExtent s from)
+    pub no-extent-read : (r : Fault) → extentFrom left prev s at ≡ refused r → Refused r ≡ pageOfRead s k (extentsFrom count count noExtent s from)
     no-extent-read r w = sym (q .same ∙ rw one-left (ap (readAfter s old (count - left) k) (read-bad (q .fuel - 1) left prev s at (λ z. omega arith) r w)))
 
     pub again : (e : Extent) (next : ℕ) → extentFrom left prev s at ≡ got e next → Looking s from count k next (left - e .pages) e (noteOf old (count - left) k e)
@@ -154,7 +155,7 @@ module _ {s : List ℕ} {from count k at left : ℕ} {prev : Extent} {old : Mapp
     finished : pageOfRead s k (extentsFrom count count noExtent s from) ≡ readAfter s old (count - left) k (got [] at)
     finished = q .same ∙ ap (readAfter s old (count - left) k) (read-none (q .fuel) left prev s at (omega arith))
 
-    pub trailing : (at ≡ length s → ⊥) → Refused TrailingBytes ≡ pageOfRead s k (extentsFrom count count noExtent s from)
+    pub trailing : (at ≡ length s → ⊥) → Refused (unplaced TrailingBytes) ≡ pageOfRead s k (extentsFrom count count noExtent s from)
     trailing l = sym (finished ∙ rw (ne-eqb at (length s) l))
 
     pub answered : at ≡ length s → k < count → Answered old ≡ pageOfRead s k (extentsFrom count count noExtent s from)

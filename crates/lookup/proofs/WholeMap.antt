@@ -8,7 +8,8 @@ use lib.Dec.{eqb}
 use lib.ListN.{length}
 use borrow.Author.Tests.{lt-ltb, le-ltb, le-leb, lt-leb}
 use Rattle.base.specs.Notation.{if_then_else_}
-use Rattle.base.specs.declared.Refusal.{Refusal}
+use Rattle.base.specs.Refusal.{unplaced}
+use Rattle.base.specs.declared.Fault.{Fault}
 use Rattle.base.specs.declared.Refusal.the-variants.{TrailingBytes, NotCanonical, OutsideMap}
 use Rattle.base.proofs.Test.{Test, test, below, above}
 use Rattle.entry.specs.Addresses.{canonical}
@@ -21,7 +22,7 @@ use Rattle.map_format.specs.declared.Extent.{Extent}
 use Rattle.map_format.specs.declared.Header.{Header}
 use Rattle.map_format.specs.declared.MappedPage.{MappedPage}
 use Rattle.map_format.proofs.HeaderFields.{header-range}
-use Rattle.lookup.specs.Call.{refusedLookup, answerAt, inRange, lookupRead, lookupOf}
+use Rattle.lookup.specs.Call.{refusedLookup, faultFound, answerAt, inRange, lookupRead, lookupOf}
 use Rattle.lookup.specs.Inner.{pageOfRead, FileBelow, askedOf, foundFor}
 use Rattle.lookup.specs.declared.Found.{Found}
 use Rattle.lookup.specs.declared.PageRead.{PageRead}
@@ -29,7 +30,7 @@ use Rattle.lookup.specs.declared.PageRead.the-variants.{Answered, Refuse
 
 -- the map of a header, when its extents were read and the end is judged
 abbrev ending : Header → List Extent → List ℕ → ℕ → Bool → Read Map
-ending h es s i b = after s (λ (u : Unit {0}). return (record { header = h; extents = es })) (if b then got tt i else refused TrailingBytes)
+ending h es s i b = after s (λ (u : Unit {0}). return (record { header = h; extents = es })) (if b then got tt i else refused (unplaced TrailingBytes))
 
 abbrev mapRead : Header → List ℕ → Read (List Extent) → Read Map
 mapRead h s d = after s (λ (es : List Extent). λ (t : List ℕ) (i : ℕ). ending h es t i (eqb i (length t))) d
@@ -41,24 +42,24 @@ page-asked a h es true = refl
 page-asked a h es false = refl
 
 module _ (s : List ℕ) (a : ℕ) (h : Header) where
-  refused-in : (k : ℕ) (d : Read (List Extent)) (q : Refusal) → pageOfRead s k d ≡ Refused q → refusedLookup q ≡ lookupRead a (mapRead h s d)
+  refused-in : (k : ℕ) (d : Read (List Extent)) (q : Fault) → pageOfRead s k d ≡ Refused q → faultFound q ≡ lookupRead a (mapRead h s d)
   refused-in k (refused p) q e =
       let same : p ≡ q = cc in
-      ap refusedLookup (sym same)
+      ap faultFound (sym same)
   refused-in k (got es i) q e = go (eqb i (length s)) e
     where
-      go : (b : Bool) → (if b then Answered (pageAt es k) else Refused TrailingBytes) ≡ Refused q → refusedLookup q ≡ lookupRead a (ending h es s i b)
+      go : (b : Bool) → (if b then Answered (pageAt es k) else Refused (unplaced TrailingBytes)) ≡ Refused q → faultFound q ≡ lookupRead a (ending h es s i b)
       go true w = absurd (let z : _≡_ {A = ℕ} 0 1 = cc in omega arith)
       go false w =
-          let same : TrailingBytes ≡ q = cc in
-          ap refusedLookup (sym same)
+          let same : unplaced TrailingBytes ≡ q = cc in
+          ap faultFound (sym same)
 
   answered-in : (d : Read (List Extent)) (p : MappedPage) → pageOfRead s (askedOf h (virtualPageOf a)) d ≡ Answered p → foundFor h a p ≡ lookupRead a (mapRead h s d)
   unfolding foundFor askedOf
   answered-in (refused q) p e = absurd (let z : _≡_ {A = ℕ} 0 1 = cc in omega arith)
   answered-in (got es i) p e = go (eqb i (length s)) e
     where
-      go : (b : Bool) → (if b then Answered (pageAt es (askedOf h (virtualPageOf a))) else Refused TrailingBytes) ≡ Answered p → foundFor h a p ≡ lookupRead a (ending h es s i b)
+      go : (b : Bool) → (if b then Answered (pageAt es (askedOf h (virtualPageOf a))) else Refused (unplaced TrailingBytes)) ≡ Answered p → foundFor h a p ≡ lookupRead a (ending h es s i b)
       go true w =
           let same : pageAt es (askedOf h (virtualPageOf a)) ≡ p = cc in
           rw (← same) (ap (λ (z : Found). if not (canonical a) then refusedLookup NotCanonical else z) (page-asked a h es (inRange h (virtualPageOf a))))
@@ -79,7 +80,7 @@ file-below v p e h =
     own
 
 module _ (s : List ℕ) (a : ℕ) where
-  pub no-header : (r : Refusal) → headerFields s 0 ≡ refused r → refusedLookup r ≡ lookupOf s a
+  pub no-header : (r : Fault) → headerFields s 0 ≡ refused r → faultFound r ≡ lookupOf s a
   unfolding lookupOf mapFields
   no-header r e = rw e
 
@@ -96,7 +97,7 @@ module _ (s : List ℕ) (a : ℕ) where
       asked-count = rw ek (asked-below h (virtualPageOf a) (header-range s 0 h at e .some))
 
       module _ (v : PageRead) (ev : v ≡ pageOfRead s k extents) where
-        pub no-extents : (q : Refusal) → v ≡ Refused q → refusedLookup q ≡ lookupOf s a
+        pub no-extents : (q : Fault) → v ≡ Refused q → faultFound q ≡ lookupOf s a
         no-extents q f = refused-in s a h k extents q (sym ev ∙ f) ∙ sym map-read
 
         pub looked-up : (p : MappedPage) → v ≡ Answered p → foundFor h a p ≡ lookupOf s a

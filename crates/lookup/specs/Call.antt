@@ -6,8 +6,9 @@ use mathlib.Core.Bool.{Bool, true, not, _&&_}
 use mathlib.Core.List.{List}
 use lib.Dec.{ltb, leb}
 use Rattle.base.specs.Notation.{if_then_else_}
-use Rattle.base.specs.Refusal.{refusalNumber}
+use Rattle.base.specs.Refusal.{refusalNumber, shownPosition}
 use Rattle.base.specs.Codes.{isCode}
+use Rattle.base.specs.declared.Fault.{Fault}
 use Rattle.base.specs.declared.Refusal.{Refusal}
 use Rattle.base.specs.declared.Refusal.the-variants.{NotCanonical, OutsideMap}
 use Rattle.varint.specs.Reader.{Read, got, refused}
@@ -23,6 +24,10 @@ use Rattle.lookup.specs.declared.Found.{Found}
 abbrev pub refusedLookup : Refusal → Found
 refusedLookup r = record { number = refusalNumber r; offset = 0 }
 
+-- a map at fault
+abbrev pub faultFound : Fault → Found
+faultFound f = record { number = refusalNumber (f .refusal); offset = shownPosition f }
+
 -- the answer for an address of a page: for 1 and 2 the offset has the place in the page
 abbrev pub answerAt : ℕ → MappedPage → Found
 answerAt a p = record { number = p .code; offset = if hasFilePage (p .code) then 4096 * p .file + a % 4096 else 0 }
@@ -32,7 +37,7 @@ abbrev pub inRange : Header → VirtualPage → Bool
 inRange h page = leb (h .start .0) (page .0) && ltb (page .0) (h .start .0 + h .count)
 
 abbrev pub lookupRead : ℕ → Read Map → Found
-lookupRead a (refused r) = refusedLookup r
+lookupRead a (refused f) = faultFound f
 lookupRead a (got m at) =
     if not (canonical a) then refusedLookup NotCanonical else
     if inRange (m .header) (virtualPageOf a)

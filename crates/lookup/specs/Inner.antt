@@ -5,6 +5,7 @@ use mathlib.Core.List.{List}
 use lib.Dec.{ltb, leb, eqb}
 use lib.ListN.{length}
 use Rattle.base.specs.Notation.{if_then_else_}
+use Rattle.base.specs.Refusal.{unplaced}
 use Rattle.base.specs.declared.Refusal.the-variants.{TrailingBytes, NotCanonical, OutsideMap}
 use Rattle.varint.specs.Reader.{Read, got, refused}
 use Rattle.entry.specs.Addresses.{canonical}
@@ -25,12 +26,12 @@ noteOf old done k e = if leb done k && ltb (k - done) (e .pages) then mappedPage
 
 -- page k of the extents that were read, if no byte stands after them
 abbrev pub pageOfRead : List ℕ → ℕ → Read (List Extent) → PageRead
-pageOfRead s k (got es at) = if eqb at (length s) then Answered (pageAt es k) else Refused TrailingBytes
-pageOfRead s k (refused r) = Refused r
+pageOfRead s k (got es at) = if eqb at (length s) then Answered (pageAt es k) else Refused (unplaced TrailingBytes)
+pageOfRead s k (refused f) = Refused f
 
 abbrev pub FileBelow : PageRead → Type 0
 FileBelow (Answered p) = p .file < 2 ^ 36
-FileBelow (Refused r) = Unit {0}
+FileBelow (Refused f) = Unit {0}
 
 -- the page of the range that is asked for, 0 when it is outside the range
 unfoldable pub askedOf : Header → VirtualPage → ℕ

@@ -1,4 +1,5 @@
 // The lookup call: a map's bytes and an address, to the number and the offset that the map has for it.
+use base::Fault;
 use base::PAGE_BYTES;
 use base::Refusal;
 use entry::VirtualPage;
@@ -13,7 +14,7 @@ ghost use Rattle.entry.specs.Pages.{virtualPageOf};
 ghost use Rattle.map_format.specs.Extents.{noExtent};
 ghost use Rattle.map_format.specs.Reading.{extentsFrom};
 ghost use Rattle.map_format.specs.Inner.{FieldsInLimits};
-ghost use Rattle.lookup.specs.Call.{refusedLookup, answerAt, inRange, LookupAnswer};
+ghost use Rattle.lookup.specs.Call.{refusedLookup, faultFound, answerAt, inRange, LookupAnswer};
 ghost use Rattle.lookup.specs.Inner.{noteOf, pageOfRead, FileBelow, askedOf, foundFor};
 
 #[repr(C)]
@@ -24,7 +25,7 @@ pub struct Found {
 
 pub enum PageRead {
     Answered(MappedPage),
-    Refused(Refusal),
+    Refused(Fault),
 }
 
 // The whole map is read before the address is judged, so that its faults come first.
@@ -32,12 +33,12 @@ pub fn lookup(map: &[u8], address: u64) -> Found
     ensures { λ r. ⌜ LookupAnswer (now (map .entry)) address r ⌝ }
 {
     match map_format::read_header(map) {
-        HeaderRead::Refused(refusal) => refuse(refusal),
+        HeaderRead::Refused(fault) => fault_found(fault),
         HeaderRead::Fields(header, at) => {
             let k = asked_page(header, address);
             let count = header.count;
             match read_page(map, at, count, k) {
-                PageRead::Refused(refusal) => refuse(refusal),
+                PageRead::Refused(fault) => fault_found(fault),
                 PageRead::Answered(page) => answer(header, address, page),
             }
         }
@@ -50,6 +51,17 @@ fn refuse(refusal: Refusal) -> Found
     Found {
         number: refusal.number(),
         offset: 0,
+    }
+}
+
+// The same for a map at fault.
+fn fault_found(fault: Fault) -> Found
+    ensures { λ r. ⌜ r ≡ faultFound fault ⌝ }
+{
+    let refusal = fault.refusal;
+    Found {
+        number: refusal.number(),
+        offset: fault.shown_position(),
     }
 }
 
@@ -121,8 +133,8 @@ fn read_page(s: &[u8], from: usize, count: u64, k: u64) -> PageRead
     let mut page = MappedPage { code: 0, file: 0 };
     while 0 < left {
         match map_format::read_extent(s, at, left, prev) {
-            ExtentRead::Refused(refusal) => {
-                return PageRead::Refused(refusal);
+            ExtentRead::Refused(fault) => {
+                return PageRead::Refused(fault);
             }
             ExtentRead::Taken(e, next) => {
                 page = note(page, count - left, k, e);
@@ -133,7 +145,7 @@ fn read_page(s: &[u8], from: usize, count: u64, k: u64) -> PageRead
         }
     }
     if at != s.len() {
-        return PageRead::Refused(Refusal::TrailingBytes);
+        return PageRead::Refused(Fault::unplaced(Refusal::TrailingBytes));
     }
     PageRead::Answered(page)
 }

@@ -42,7 +42,7 @@ p2-holds = (refl, (refl, (refl, (refl, tt))))
 -- 0 for a map that is taken
 answer-of : Read Map → ℕ
 answer-of (got m at) = 0
-answer-of (refused r) = refusalNumber r
+answer-of (refused f) = refusalNumber (f .refusal)
 
 answer : List ℕ → ℕ
 answer bytes = answer-of (mapFields bytes 0)

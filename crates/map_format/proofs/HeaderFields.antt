@@ -7,7 +7,8 @@ use native.Mathlib.Omega.{arith}
 use lib.Dec.{leb, ltb}
 use borrow.Author.Tests.{leb-true}
 use Rattle.base.specs.Notation.{if_then_else_, within}
-use Rattle.base.specs.declared.Refusal.{Refusal}
+use Rattle.base.specs.Refusal.{unplaced}
+use Rattle.base.specs.declared.Fault.{Fault}
 use Rattle.base.proofs.Test.{both-true}
 use Rattle.base.specs.declared.Refusal.the-variants.{OutOfLimits}
 use Rattle.entry.specs.Pages.{virtualPage}
@@ -22,11 +23,11 @@ use Rattle.map_format.specs.declared.HeaderRead.{HeaderRead}
 use Rattle.map_format.specs.declared.HeaderRead.the-variants.{Fields, Refused}
 
 judging : (s : List ℕ) (h : Header) (next : ℕ) (b : Bool)
-    → (if b then Fields h next else Refused OutOfLimits) ≡ asHeaderRead (after s (λ (x : Unit {0}). return h) (if b then got tt next else refused OutOfLimits))
+    → (if b then Fields h next else Refused (unplaced OutOfLimits)) ≡ asHeaderRead (after s (λ (x : Unit {0}). return h) (if b then got tt next else refused (unplaced OutOfLimits)))
 judging s h next true = refl
 judging s h next false = refl
 
-pub no-fields : (s : List ℕ) (r : Refusal) → editionFields s 0 ≡ refused r → headerFields s 0 ≡ refused r
+pub no-fields : (s : List ℕ) (r : Fault) → editionFields s 0 ≡ refused r → headerFields s 0 ≡ refused r
 unfolding headerFields
 no-fields s r e = rw e
 
@@ -66,6 +67,6 @@ pub header-got : (d : Read Header) (v : HeaderRead) (h : Header) (next : ℕ) �
 header-got (got g j) v h next e f = cc
 header-got (refused q) v h next e f = absurd (let z : _≡_ {A = ℕ} 0 1 = cc in omega arith)
 
-pub header-refused : (d : Read Header) (v : HeaderRead) (q : Refusal) → v ≡ asHeaderRead d → v ≡ Refused q → d ≡ refused q
+pub header-refused : (d : Read Header) (v : HeaderRead) (q : Fault) → v ≡ asHeaderRead d → v ≡ Refused q → d ≡ refused q
 header-refused (got h j) v q e f = absurd (let z : _≡_ {A = ℕ} 0 1 = cc in omega arith)
 header-refused (refused p) v q e f = cc

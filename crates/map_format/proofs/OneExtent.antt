@@ -8,7 +8,8 @@ use lib.Dec.{ltb, leb}
 use borrow.Author.Tests.{leb-true, ltb-true}
 use Rattle.base.specs.Notation.{if_then_else_}
 use Rattle.base.specs.Codes.{isCode}
-use Rattle.base.specs.declared.Refusal.{Refusal}
+use Rattle.base.specs.Refusal.{unplaced}
+use Rattle.base.specs.declared.Fault.{Fault}
 use Rattle.base.proofs.Test.{both-true}
 use Rattle.base.specs.declared.Refusal.the-variants.{BadExtent}
 use Rattle.varint.specs.Reader.{Read, got, refused, after, return}
@@ -27,7 +28,7 @@ use Rattle.map_format.specs.declared.ExtentRead.the-variants.{Taken, Ref
 use Rattle.map_format.proofs.Rules.{KeepsRules}
 
 judging : (s : List ℕ) (e : Extent) (next : ℕ) (b : Bool)
-    → (if b then Taken e next else Refused BadExtent) ≡ asExtentRead (after s (λ (x : Unit {0}). return e) (if b then got tt next else refused BadExtent))
+    → (if b then Taken e next else Refused (unplaced BadExtent)) ≡ asExtentRead (after s (λ (x : Unit {0}). return e) (if b then got tt next else refused (unplaced BadExtent)))
 judging s e next true = refl
 judging s e next false = refl
 
@@ -57,22 +58,22 @@ module _ (s : List ℕ) (at code : ℕ) where
 -- ---- test by test
 
 module _ (s : List ℕ) (at left : ℕ) (prev : Extent) where
-  pub no-code : (r : Refusal) → number s at ≡ refused r → extentFrom left prev s at ≡ refused r
+  pub no-code : (r : Fault) → number s at ≡ refused r → extentFrom left prev s at ≡ refused r
   unfolding extentFrom
   no-code r e = rw e
 
   module _ (code a : ℕ) (e₁ : number s at ≡ got code a) where
-    pub no-such-code : isCode code ≡ false → extentFrom left prev s at ≡ refused BadExtent
+    pub no-such-code : isCode code ≡ false → extentFrom left prev s at ≡ refused (unplaced BadExtent)
     unfolding extentFrom
     no-such-code l = rw (e₁, l)
 
     module _ (l : isCode code ≡ true) where
-      pub no-length : (r : Refusal) → number s a ≡ refused r → extentFrom left prev s at ≡ refused r
+      pub no-length : (r : Fault) → number s a ≡ refused r → extentFrom left prev s at ≡ refused r
       unfolding extentFrom
       no-length r e = rw (e₁, l, e)
 
       module _ (pages b : ℕ) (e₂ : number s a ≡ got pages b) where
-        pub no-first : (r : Refusal) → firstFrom code s b ≡ refused r → extentFrom left prev s at ≡ refused r
+        pub no-first : (r : Fault) → firstFrom code s b ≡ refused r → extentFrom left prev s at ≡ refused r
         unfolding extentFrom
         no-first r e = rw (e₁, l, e₂, e)
 
@@ -130,6 +131,6 @@ pub extent-got : (d : Read Extent) (v : ExtentRead) (e : Extent) (next : ℕ) �
 extent-got (got e₁ j) v e next w f = cc
 extent-got (refused q) v e next w f = absurd (let z : _≡_ {A = ℕ} 0 1 = cc in omega arith)
 
-pub extent-refused : (d : Read Extent) (v : ExtentRead) (q : Refusal) → v ≡ asExtentRead d → v ≡ Refused q → d ≡ refused q
+pub extent-refused : (d : Read Extent) (v : ExtentRead) (q : Fault) → v ≡ asExtentRead d → v ≡ Refused q → d ≡ refused q
 extent-refused (got e j) v q w f = absurd (let z : _≡_ {A = ℕ} 0 1 = cc in omega arith)
 extent-refused (refused p) v q w f = cc

@@ -6,6 +6,7 @@ use native.Mathlib.Omega.{arith}
 use lib.Dec.{ltb, eqb}
 use borrow.Author.Tests.{lt-ltb, le-ltb, le-leb, lt-leb, eq-eqb, ne-eqb}
 use Rattle.base.specs.Codes.{isCode}
+use Rattle.base.specs.Refusal.{unplaced}
 use Rattle.base.specs.declared.Refusal.the-variants.{BadExtent}
 use Rattle.map_format.specs.Extents.{hasFilePage, pageAfter, joins}
 use Rattle.map_format.specs.Reading.{sound}
@@ -61,5 +62,5 @@ module _ (left : ℕ) (prev e : Extent) where
     pub kept : r ≡ true → Taken e next ≡ judgedExtent left prev e next
     kept t = rw (sym w ∙ t)
 
-    pub broken : r ≡ false → Refused BadExtent ≡ judgedExtent left prev e next
+    pub broken : r ≡ false → Refused (unplaced BadExtent) ≡ judgedExtent left prev e next
     broken t = rw (sym w ∙ t)

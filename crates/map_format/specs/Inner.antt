@@ -3,6 +3,7 @@ use mathlib.Core.Path.{_≡_}
 use mathlib.Core.Bool.{false}
 use Prim.Native.Nat.{ℕ, _^_, _<_}
 use Rattle.base.specs.Notation.{if_then_else_}
+use Rattle.base.specs.Refusal.{unplaced}
 use Rattle.base.specs.declared.Refusal.the-variants.{OutOfLimits, BadExtent}
 use Rattle.varint.specs.Reader.{Read, got, refused}
 use Rattle.map_format.specs.Extents.{hasFilePage}
@@ -16,17 +17,17 @@ use Rattle.map_format.specs.declared.ExtentRead.the-variants as extent
 
 abbrev pub asHeaderRead : Read Header → HeaderRead
 asHeaderRead (got h next) = header.Fields h next
-asHeaderRead (refused r) = header.Refused r
+asHeaderRead (refused f) = header.Refused f
 
 abbrev pub judgedRange : Header → ℕ → HeaderRead
-judgedRange h next = if inHalf (h .start) (h .count) then header.Fields h next else header.Refused OutOfLimits
+judgedRange h next = if inHalf (h .start) (h .count) then header.Fields h next else header.Refused (unplaced OutOfLimits)
 
 abbrev pub asExtentRead : Read Extent → ExtentRead
 asExtentRead (got e next) = extent.Taken e next
-asExtentRead (refused r) = extent.Refused r
+asExtentRead (refused f) = extent.Refused f
 
 abbrev pub judgedExtent : ℕ → Extent → Extent → ℕ → ExtentRead
-judgedExtent left prev e next = if sound left prev e then extent.Taken e next else extent.Refused BadExtent
+judgedExtent left prev e next = if sound left prev e then extent.Taken e next else extent.Refused (unplaced BadExtent)
 
 -- fields below 2^36, the first page 0 for codes that have none
 pub record FieldsInLimits (e : Extent) : Type 0 where

@@ -1,4 +1,5 @@
 // The format of a map: pages joined into extents, laid out in seven-bit groups; one builder and one reader.
+use base::Fault;
 use base::Refusal;
 use entry::VirtualPage;
 use varint::Number;
@@ -46,12 +47,12 @@ pub struct Header {
 
 pub enum HeaderRead {
     Fields(Header, usize),
-    Refused(Refusal),
+    Refused(Fault),
 }
 
 pub enum ExtentRead {
     Taken(Extent, usize),
-    Refused(Refusal),
+    Refused(Fault),
 }
 
 // The open extent, of 0 pages where there is none yet, and the place after what was written.
@@ -161,11 +162,11 @@ pub fn read_header(s: &[u8]) -> HeaderRead
     ensures { λ r. ⌜ r ≡ asHeaderRead (headerFields (now (s .entry)) 0) ⌝ }
 {
     match varint::read_edition(s) {
-        Number::Refused(refusal) => HeaderRead::Refused(refusal),
+        Number::Refused(fault) => HeaderRead::Refused(fault),
         Number::Value(_, a) => match varint::read_field(s, a) {
-            Number::Refused(refusal) => HeaderRead::Refused(refusal),
+            Number::Refused(fault) => HeaderRead::Refused(fault),
             Number::Value(first, b) => match varint::read_field(s, b) {
-                Number::Refused(refusal) => HeaderRead::Refused(refusal),
+                Number::Refused(fault) => HeaderRead::Refused(fault),
                 Number::Value(count, next) => {
                     let start = VirtualPage::numbered(first);
                     judge_range(Header { start, count }, next)
@@ -182,19 +183,19 @@ fn judge_range(header: Header, next: usize) -> HeaderRead
     let start = header.start.number();
     let count = header.count;
     if count < 1 {
-        return HeaderRead::Refused(Refusal::OutOfLimits);
+        return HeaderRead::Refused(Fault::unplaced(Refusal::OutOfLimits));
     }
     if MOST_PAGES < count {
-        return HeaderRead::Refused(Refusal::OutOfLimits);
+        return HeaderRead::Refused(Fault::unplaced(Refusal::OutOfLimits));
     }
     if start < UPPER_HALF_PAGE {
         if UPPER_HALF_PAGE < start + count {
-            return HeaderRead::Refused(Refusal::OutOfLimits);
+            return HeaderRead::Refused(Fault::unplaced(Refusal::OutOfLimits));
         }
         return HeaderRead::Fields(header, next);
     }
     if VIRTUAL_PAGES < start + count {
-        return HeaderRead::Refused(Refusal::OutOfLimits);
+        return HeaderRead::Refused(Fault::unplaced(Refusal::OutOfLimits));
     }
     HeaderRead::Fields(header, next)
 }
@@ -205,15 +206,15 @@ pub fn read_extent(s: &[u8], at: usize, left: u64, prev: Extent) -> ExtentRead
     ensures { λ r. ⌜ r ≡ asExtentRead (extentFrom left prev (now (s .entry)) at) ⌝ }
 {
     match varint::read_field(s, at) {
-        Number::Refused(refusal) => ExtentRead::Refused(refusal),
+        Number::Refused(fault) => ExtentRead::Refused(fault),
         Number::Value(code, a) => {
             if !base::is_code(code) {
-                return ExtentRead::Refused(Refusal::BadExtent);
+                return ExtentRead::Refused(Fault::unplaced(Refusal::BadExtent));
             }
             match varint::read_field(s, a) {
-                Number::Refused(refusal) => ExtentRead::Refused(refusal),
+                Number::Refused(fault) => ExtentRead::Refused(fault),
                 Number::Value(pages, b) => match read_first(s, b, code) {
-                    Number::Refused(refusal) => ExtentRead::Refused(refusal),
+                    Number::Refused(fault) => ExtentRead::Refused(fault),
                     Number::Value(first, next) => {
                         let e = Extent { code, pages, first };
                         judge_extent(left, prev, e, next)
@@ -240,7 +241,7 @@ fn judge_extent(left: u64, prev: Extent, e: Extent, next: usize) -> ExtentRead
     if is_sound(left, prev, e) {
         ExtentRead::Taken(e, next)
     } else {
-        ExtentRead::Refused(Refusal::BadExtent)
+        ExtentRead::Refused(Fault::unplaced(Refusal::BadExtent))
     }
 }
 

@@ -10,6 +10,7 @@ use lib.Seq.{sets-eq, take-at}
 use borrow.Author.Tests.{lt-ltb, le-ltb, le-leb, ne-eqb}
 use Rattle.base.specs.Notation.{if_then_else_, bits}
 use Rattle.base.specs.Refusal.{refusalNumber}
+use Rattle.base.specs.declared.Fault.{Fault}
 use Rattle.base.specs.declared.Refusal.{Refusal}
 use Rattle.base.specs.declared.Refusal.the-variants.{BadMapRange, MapBufferShort}
 use Rattle.base.proofs.Test.{Test, test, below, above, both-true}
@@ -42,7 +43,7 @@ use Rattle.maps.specs.MapOf.{allowed, mappedPageOf, pagesOf, headerOf, m
 use Rattle.maps.specs.Demand3.{walkAnswer, AnswersAsWalk, Fewest, Demand3}
 use Rattle.maps.specs.Call.{mapOutcome, mapCall, MapAnswer}
 use Rattle.base.specs.declared.Written.{Written}
-use Rattle.base.specs.Written.{notWritten, written}
+use Rattle.base.specs.Written.{notWritten, faultWritten, written}
 use Rattle.maps.proofs.Ranges.{Allowed, allowed-range, in-range, start-in-half}
 use Rattle.maps.proofs.Mapping.{mappable, pages-long}
 
@@ -202,7 +203,7 @@ module _ (c : Case) where
       omega (arith, q .laws .image-pages)
 
   module _ (start count : ℕ) (old : List ℕ) where
-    pub refused-case-map : (x : Refusal) → checkOf c ≡ refused x → (r : Written) → r ≡ notWritten x → MapAnswer c start count old r old
+    pub refused-case-map : (x : Fault) → checkOf c ≡ refused x → (r : Written) → r ≡ faultWritten x → MapAnswer c start count old r old
     unfolding mapCall
     refused-case-map x e r g = record { same = rw (e, g); demand3 = rw e tt; grounded = refused-grounded c x e }
 

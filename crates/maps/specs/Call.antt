@@ -6,7 +6,7 @@ use mathlib.Core.List.{List}
 use lib.Dec.{ltb}
 use lib.ListN.{length}
 use Rattle.base.specs.Notation.{if_then_else_}
-use Rattle.base.specs.Written.{WriteOutcome, unwritten, written}
+use Rattle.base.specs.Written.{WriteOutcome, unwritten, faultOutcome, written}
 use Rattle.base.specs.declared.Refusal.the-variants.{BadMapRange, MapBufferShort}
 use Rattle.base.specs.declared.Written.{Written}
 use Rattle.walk.specs.Walk.{World}
@@ -23,7 +23,7 @@ mapOutcome w start count out =
 
 -- the sheet, then 40, then 44
 unfoldable pub mapCall : Case → ℕ → ℕ → List ℕ → WriteOutcome
-mapCall c start count out = inCase c (unwritten out) λ w.
+mapCall c start count out = inCase c (faultOutcome out) λ w.
     if allowed start count then mapOutcome w start count out else unwritten out BadMapRange
 
 -- the map call's promise: what it hands back, demand 3 for an allowed range, and that the walk rests on what the files hold

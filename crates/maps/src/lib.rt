@@ -60,7 +60,7 @@ fn map_over(
     ensures { λ r. ⌜ MapAnswer (caseOf (now (sheet .entry)) (now (image .entry)) (now (pagefile .entry))) start pages (now (out .entry)) r (now (out .exit)) ⌝ }
 {
     match case::open_case(sheet, image, pagefile, rows) {
-        Opened::Refused(refusal) => base::not_written(refusal),
+        Opened::Refused(fault) => base::fault_written(fault),
         Opened::Ready(space, n) => {
             if !is_allowed(start, pages) {
                 return base::not_written(Refusal::BadMapRange);

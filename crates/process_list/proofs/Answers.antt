@@ -6,8 +6,9 @@ use native.Mathlib.Omega.{arith}
 use lib.ListN.{length, take}
 use lib.Seq.{sets}
 use borrow.Author.Tests.{eq-eqb, ne-eqb}
-use Rattle.base.specs.Written.{notWritten}
+use Rattle.base.specs.Written.{notWritten, faultWritten}
 use Rattle.base.specs.declared.Written.{Written}
+use Rattle.base.specs.declared.Fault.{Fault}
 use Rattle.base.specs.declared.Refusal.{Refusal}
 use Rattle.base.specs.declared.Refusal.the-variants.{LinkUnaligned}
 use Rattle.base.proofs.Overlay.{sets-none}
@@ -61,7 +62,7 @@ module _ (ns : Nodes) (old last : List ℕ) (r : Followed) (p : Pass ns [] r las
 -- ---- the call
 
 module _ (c : Case) (h : ℕ) (old : List ℕ) where
-  pub refused-case-list : (x : Refusal) → checkOf c ≡ reader.refused x → (r : Written) → r ≡ notWritten x → ListAnswer c h old r old
+  pub refused-case-list : (x : Fault) → checkOf c ≡ reader.refused x → (r : Written) → r ≡ faultWritten x → ListAnswer c h old r old
   unfolding listOf
   refused-case-list x e r g = record { same = rw (e, g); exact = rw e tt; found = rw e tt; grounded = refused-grounded c x e }
 

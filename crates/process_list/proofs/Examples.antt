@@ -5,7 +5,7 @@ use Prim.Native.Nat.{ℕ, zero, _/_, _%_}
 use native.Mathlib.Omega.{arith}
 use lib.ListN.{length, replicate}
 use Rattle.base.specs.Example.{Example, same, every, Hold}
-use Rattle.base.specs.Written.{unwritten, written}
+use Rattle.base.specs.Written.{faultOutcome, written}
 use Rattle.base.specs.declared.Refusal.the-variants.{BackLinkDiffers, ListBufferShort, LinkUnaligned}
 use Rattle.varint.specs.Reader.{Read, got}
 use Rattle.varint.specs.Reader as read
@@ -55,8 +55,8 @@ pub p11-holds : Hold p11
 unfolding p11 LinksToItself listOf linked word levelOf leafOf upperOf frameIn settleOf resolveOf reachable descendOf wordAt linkOf nextNode nodesAfter nodesOf
 p11-holds = (λ x f. go x (checkOf (x .case)) f, (refl, tt))
   where
-    go : (x : Asked) (d : Read Sheet) → byCheck (x .case) (λ r. ⊥) (λ w. Follows w (x .head) (x .head)) d
-        → byCheck (x .case) (unwritten (x .buffer)) (λ w. nodesOutcome (x .buffer) (nodesOf w (length (x .buffer)) (x .head))) d ≡ written (x .buffer) []
+    go : (x : Asked) (d : Read Sheet) → byCheck (x .case) (λ f. ⊥) (λ w. Follows w (x .head) (x .head)) d
+        → byCheck (x .case) (faultOutcome (x .buffer)) (λ w. nodesOutcome (x .buffer) (nodesOf w (length (x .buffer)) (x .head))) d ≡ written (x .buffer) []
     go x (got s at) f =
         let w = worldOf s (x .case .image) (x .case .pagefile) in
         exact-list w (x .head) (x .buffer) .complete [] (record { head = f .aligned; closes = f; most = omega arith }) (omega arith)

@@ -3,7 +3,7 @@ use Prim.Native.Nat.{ℕ, _%_}
 use mathlib.Core.Path.{_≡_}
 use mathlib.Core.List.{List}
 use lib.ListN.{length}
-use Rattle.base.specs.Written.{WriteOutcome, unwritten, written}
+use Rattle.base.specs.Written.{WriteOutcome, unwritten, faultOutcome, written}
 use Rattle.base.specs.declared.Written.{Written}
 use Rattle.walk.specs.Walk.{resolveOf}
 use Rattle.walk.specs.Rows.{WordInside}
@@ -18,7 +18,7 @@ nodesOutcome out (nodes xs) = written out xs
 nodesOutcome out (refused r) = unwritten out r
 
 unfoldable pub listOf : Case → ℕ → List ℕ → WriteOutcome
-listOf c h out = inCase c (unwritten out) (λ w. nodesOutcome out (nodesOf w (length out) h))
+listOf c h out = inCase c (faultOutcome out) (λ w. nodesOutcome out (nodesOf w (length out) h))
 
 -- the list call's promise: what it hands back, demand 2, and that links and walks rest on what the files hold
 pub record ListAnswer (c : Case) (h : ℕ) (old : List ℕ) (r : Written) (new : List ℕ) : Type 0 where

@@ -62,7 +62,7 @@ fn list_over(
     ensures { λ r. ⌜ ListAnswer (caseOf (now (sheet .entry)) (now (image .entry)) (now (pagefile .entry))) head (now (out .entry)) r (now (out .exit)) ⌝ }
 {
     match case::open_case(sheet, image, pagefile, rows) {
-        Opened::Refused(refusal) => base::not_written(refusal),
+        Opened::Refused(fault) => base::fault_written(fault),
         Opened::Ready(space, n) => {
             if head % 8 != 0 {
                 return base::not_written(Refusal::LinkUnaligned);

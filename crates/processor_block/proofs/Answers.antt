@@ -4,12 +4,12 @@ use mathlib.Core.List.{List}
 use Prim.Native.Nat.{ℕ, _%_}
 use native.Mathlib.Omega.{arith}
 use lib.ListN.{length, take}
-use Rattle.base.specs.declared.Refusal.{Refusal}
+use Rattle.base.specs.declared.Fault.{Fault}
 use Rattle.varint.specs.Reader.{refused}
 use Rattle.sheet.specs.declared.AddressSpace.{AddressSpace}
 use Rattle.walk.specs.Walk.{World, worldOf}
 use Rattle.case.specs.Case.{Case, checkOf}
-use Rattle.case.specs.Answer.{refusal}
+use Rattle.case.specs.Answer.{faultAnswer}
 use Rattle.case.specs.declared.Answer.{Answer}
 use Rattle.case.proofs.Opening.{Accepted}
 use Rattle.processor_block.specs.Block.{blockFrom}
@@ -18,7 +18,7 @@ use Rattle.processor_block.specs.Inner.{Searches}
 use Rattle.processor_block.proofs.Meaning.{candidate-at, exact-from}
 
 module _ (c : Case) where
-  pub refused-search : (from : ℕ) (r : Refusal) → checkOf c ≡ refused r → BlockAnswer c from (refusal r)
+  pub refused-search : (from : ℕ) (r : Fault) → checkOf c ≡ refused r → BlockAnswer c from (faultAnswer r)
   unfolding blockOf
   refused-search from r e = record { same = rw e; exact = rw e tt; candidates = rw e tt }
 

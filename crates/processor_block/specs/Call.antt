@@ -8,12 +8,12 @@ use Rattle.base.specs.declared.Refusal.the-variants.{NoProcessorBlock}
 use Rattle.entry.specs.Entry.{frameOf}
 use Rattle.walk.specs.Walk.{World, Grounded}
 use Rattle.case.specs.Case.{Case, inCase, ForAccepted}
-use Rattle.case.specs.Answer.{refusal}
+use Rattle.case.specs.Answer.{refusal, faultAnswer}
 use Rattle.case.specs.declared.Answer.{Answer}
 use Rattle.processor_block.specs.Block.{directoryWord, withDirectory, selfWalk, isBlock, blockFrom}
 
 unfoldable pub blockOf : Case → ℕ → Answer
-blockOf c from = inCase c refusal (λ w. blockFrom w from)
+blockOf c from = inCase c faultAnswer (λ w. blockFrom w from)
 
 -- the words of a block at an offset lie in the image, and its Self rests on what the files hold
 pub record GroundedCandidate (w : World) (o : ℕ) : Type 0 where

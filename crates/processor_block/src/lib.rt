@@ -37,7 +37,7 @@ fn search_over(sheet: &[u8], image: &[u8], pagefile: &[u8], rows: &mut [u64], fr
     ensures { λ r. ⌜ BlockAnswer (caseOf (now (sheet .entry)) (now (image .entry)) (now (pagefile .entry))) from r ⌝ }
 {
     match case::open_case(sheet, image, pagefile, rows) {
-        Opened::Refused(refusal) => case::refuse(refusal),
+        Opened::Refused(fault) => case::fault_answer(fault),
         Opened::Ready(_, n) => search(&rows[..n], image, pagefile, from),
     }
 }

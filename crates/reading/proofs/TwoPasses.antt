@@ -7,6 +7,7 @@ use native.Mathlib.Omega.{arith}
 use lib.ListN.{length, take}
 use lib.Seq.{sets}
 use borrow.Author.Tests.{lt-ltb, le-ltb}
+use Rattle.base.specs.declared.Fault.{Fault}
 use Rattle.base.specs.declared.Refusal.{Refusal}
 use Rattle.base.specs.declared.Refusal.the-variants.{ReadBufferShort}
 use Rattle.varint.specs.Reader as reader
@@ -16,7 +17,7 @@ use Rattle.case.specs.Case.{Case, checkOf}
 use Rattle.case.specs.Answer.{GroundedAt}
 use Rattle.case.proofs.Opening.{Accepted, refused-grounded, accepted-grounded}
 use Rattle.reading.specs.Bytes.{Bytes, bytes, refused, bytesOf}
-use Rattle.reading.specs.Call.{ReadOutcome, refusedBytes, doneBytes, readAll, readOf, ReadAnswer}
+use Rattle.reading.specs.Call.{ReadOutcome, refusedBytes, faultBytes, doneBytes, readAll, readOf, ReadAnswer}
 use Rattle.reading.specs.Inner.{filledOf, BytesLaid, FilledWith}
 use Rattle.reading.specs.declared.Filled.{Filled}
 use Rattle.reading.specs.declared.Filled.the-variants as filled-as
@@ -51,7 +52,7 @@ module _ (b : Bytes) (n : ℕ) (old last : List ℕ) (r : Filled) (f : FilledWit
       go (refused y) h l = absurd (let z : _≡_ {A = ℕ} 0 1 = cc in omega arith)
 
 module _ (c : Case) (a n : ℕ) (old : List ℕ) where
-  pub refused-case-read : (x : Refusal) → checkOf c ≡ reader.refused x → (r : BytesRead) → r ≡ refusedBytes x → ReadAnswer c a n old r old
+  pub refused-case-read : (x : Fault) → checkOf c ≡ reader.refused x → (r : BytesRead) → r ≡ faultBytes x → ReadAnswer c a n old r old
   unfolding readOf
   refused-case-read x e r g = record { same = rw (e, g); grounded = λ k. refused-grounded c x e (a + k) }
 

@@ -1,4 +1,5 @@
 // The read call: bytes of a case from an address on.
+use base::Fault;
 use base::Refusal;
 use base::TOP_ADDRESS;
 use case::Opened;
@@ -14,7 +15,7 @@ ghost use Rattle.walk.specs.Rows.{rowsWorld};
 ghost use Rattle.case.specs.Case.{caseOf};
 ghost use Rattle.case.specs.Inner.{rowNumbers};
 ghost use Rattle.reading.specs.Bytes.{bytesOf};
-ghost use Rattle.reading.specs.Call.{readAll, refusedBytes, doneBytes, ReadAnswer};
+ghost use Rattle.reading.specs.Call.{readAll, refusedBytes, faultBytes, doneBytes, ReadAnswer};
 ghost use Rattle.reading.specs.Inner.{pieceOf, PieceInside, FilledWith, Room};
 
 // 01's number, how many bytes were read, and 1 if one of them came from a page of zeros.
@@ -64,7 +65,7 @@ fn read_over(
     ensures { λ r. ⌜ ReadAnswer (caseOf (now (sheet .entry)) (now (image .entry)) (now (pagefile .entry))) address n (now (out .entry)) r (now (out .exit)) ⌝ }
 {
     match case::open_case(sheet, image, pagefile, rows) {
-        Opened::Refused(refusal) => refuse(refusal),
+        Opened::Refused(fault) => fault_bytes(fault),
         Opened::Ready(space, k) => {
             if (out.len() as u64) < n {
                 return refuse(Refusal::ReadBufferShort);
@@ -102,6 +103,18 @@ fn refuse(refusal: Refusal) -> BytesRead
     BytesRead {
         number: refusal.number(),
         length: 0,
+        zeros: 0,
+    }
+}
+
+// The same for a sheet at fault.
+fn fault_bytes(fault: Fault) -> BytesRead
+    ensures { λ r. ⌜ r ≡ faultBytes fault ⌝ }
+{
+    let refusal = fault.refusal;
+    BytesRead {
+        number: refusal.number(),
+        length: fault.shown_position(),
         zeros: 0,
     }
 }

@@ -8,7 +8,7 @@ use lib.Dec.{leb, ltb}
 use lib.ListN.{length}
 use borrow.Author.Tests.{leb-true}
 use Rattle.base.specs.Notation.{within}
-use Rattle.base.specs.declared.Refusal.{Refusal}
+use Rattle.base.specs.declared.Fault.{Fault}
 use Rattle.base.specs.declared.Refusal.the-variants.{OutOfLimits, BadRun}
 use Rattle.varint.specs.Reader.{got, refused}
 use Rattle.varint.specs.Groups.{number}
@@ -77,5 +77,5 @@ few-runs s image pagefile t next e f =
 pub few-by-count : (s : List ℕ) (f : EditionFields) (next : ℕ) → editionFields s 0 ≡ got f next → leb (f .second) 32 ≡ fewRuns (editionFields s 0)
 few-by-count s f next e = sym (ap fewRuns e)
 
-pub none-by-count : (s : List ℕ) (r : Refusal) → editionFields s 0 ≡ refused r → true ≡ fewRuns (editionFields s 0)
+pub none-by-count : (s : List ℕ) (r : Fault) → editionFields s 0 ≡ refused r → true ≡ fewRuns (editionFields s 0)
 none-by-count s r e = sym (ap fewRuns e)

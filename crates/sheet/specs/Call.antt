@@ -22,12 +22,12 @@ headerOf s = record { space = s .space; count = length (s .runs) }
 
 abbrev pub sheetRead : Read Sheet → SheetRead
 sheetRead (got s at) = Accepted (headerOf s)
-sheetRead (refused r) = Refused r
+sheetRead (refused f) = Refused f
 
 -- the rows of an accepted sheet lie over the lent numbers; what a refused sheet leaves there is free
 abbrev pub RowsLaid : List ℕ → Read Sheet → List ℕ → Type 0
 RowsLaid old (got s at) new = new ≡ sets old 0 (rowsFrom 0 (s .runs))
-RowsLaid old (refused r) new = Unit {0}
+RowsLaid old (refused f) new = Unit {0}
 
 pub record SheetAnswer (d : Read Sheet) (old : List ℕ) (r : SheetRead) (new : List ℕ) : Type 0 where
   pub same : r ≡ sheetRead d

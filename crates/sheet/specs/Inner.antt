@@ -7,6 +7,7 @@ use lib.Dec.{eqb, leb}
 use lib.ListN.{set}
 use lib.Seq.{sets}
 use Rattle.base.specs.Notation.{if_then_else_, within}
+use Rattle.base.specs.Refusal.{unplaced}
 use Rattle.base.specs.declared.Refusal.the-variants.{OutOfLimits, ImageLengthDiffers, PagefileNotWholePages}
 use Rattle.varint.specs.Reader.{Read, got, refused}
 use Rattle.varint.specs.Edition.{EditionFields}
@@ -27,21 +28,21 @@ use Rattle.sheet.specs.declared.SheetRead.the-variants as sheet-read
 
 abbrev pub headerRead : Read Header → HeaderRead
 headerRead (got h next) = header-read.Fields h next
-headerRead (refused r) = header-read.Refused r
+headerRead (refused f) = header-read.Refused f
 
 -- at most 32 runs by the fields before the runs; where they cannot be read there are none
 abbrev pub fewRuns : Read EditionFields → Bool
 fewRuns (got f next) = leb (f .second) 32
-fewRuns (refused r) = true
+fewRuns (refused f) = true
 
 -- the fields before the runs, with a number for the count
 abbrev pub fieldsRead : ℕ → ℕ → ℕ → HeaderRead
 fieldsRead directory count next =
-    if within 1 1000 count then header-read.Fields (record { space = spaceAt directory; count = count }) next else header-read.Refused OutOfLimits
+    if within 1 1000 count then header-read.Fields (record { space = spaceAt directory; count = count }) next else header-read.Refused (unplaced OutOfLimits)
 
 abbrev pub runRead : Read Run → RunRead
 runRead (got r next) = run-read.Taken r next
-runRead (refused r) = run-read.Refused r
+runRead (refused f) = run-read.Refused f
 
 -- the numbers with a run's row at place i; `pages` is how many pages stand before it in the image
 abbrev pub withRow : List ℕ → ℕ → ℕ → Run → List ℕ
@@ -50,16 +51,16 @@ withRow rows i pages r = set (set (set rows (3 * i) (r .first .0)) (3 * i + 1) (
 -- runs that were read: their pages, and their rows over the lent numbers
 abbrev pub RunsLaid : Read (List Run) → List ℕ → RunsRead → List ℕ → Type 0
 RunsLaid (got rs next) old r new = (r ≡ runs-read.Laid (runPages rs) next) × (new ≡ sets old 0 (rowsFrom 0 rs))
-RunsLaid (refused q) old r new = r ≡ runs-read.Refused q
+RunsLaid (refused f) old r new = r ≡ runs-read.Refused f
 
 -- the fields that were read: what a walk needs of them, the pages of the runs, and their rows over the lent numbers
 abbrev pub FieldsLaid : Read Sheet → List ℕ → FieldsRead → List ℕ → Type 0
 FieldsLaid (got s at) old r new = (r ≡ fields-read.Fields (headerOf s) (runPages (s .runs))) × (new ≡ sets old 0 (rowsFrom 0 (s .runs)))
-FieldsLaid (refused q) old r new = r ≡ fields-read.Refused q
+FieldsLaid (refused f) old r new = r ≡ fields-read.Refused f
 
 -- the answer for fields that were read, the pages of the runs, and the two lengths
 abbrev pub lengthsRead : Header → ℕ → ℕ → ℕ → SheetRead
 lengthsRead h pages image pagefile =
-    if not (eqb image (4096 * pages)) then sheet-read.Refused ImageLengthDiffers else
-    if not (eqb (pagefile % 4096) 0) then sheet-read.Refused PagefileNotWholePages else
+    if not (eqb image (4096 * pages)) then sheet-read.Refused (unplaced ImageLengthDiffers) else
+    if not (eqb (pagefile % 4096) 0) then sheet-read.Refused (unplaced PagefileNotWholePages) else
     sheet-read.Accepted h

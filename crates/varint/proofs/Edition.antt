@@ -4,7 +4,8 @@ use mathlib.Core.List.{List}
 use Prim.Native.Nat.{ℕ, _^_, _<_}
 use lib.Dec.{eqb}
 use borrow.Author.Tests.{eq-eqb, ne-eqb}
-use Rattle.base.specs.declared.Refusal.{Refusal}
+use Rattle.base.specs.Refusal.{unplaced}
+use Rattle.base.specs.declared.Fault.{Fault}
 use Rattle.base.specs.declared.Refusal.the-variants.{OutOfLimits}
 use Rattle.varint.specs.Reader.{Read, got, refused}
 use Rattle.varint.specs.Groups.{number}
@@ -14,12 +15,12 @@ use Rattle.varint.proofs.Fields.{field-below}
 
 -- ---- the edition
 
-pub no-edition : (s : List ℕ) (r : Refusal) → number s 0 ≡ refused r → edition s 0 ≡ refused r
+pub no-edition : (s : List ℕ) (r : Fault) → number s 0 ≡ refused r → edition s 0 ≡ refused r
 unfolding edition
 no-edition s r e = rw e
 
 module _ (s : List ℕ) (n a : ℕ) (e : number s 0 ≡ got n a) where
-  pub other-edition : (n ≡ 1 → ⊥) → edition s 0 ≡ refused OutOfLimits
+  pub other-edition : (n ≡ 1 → ⊥) → edition s 0 ≡ refused (unplaced OutOfLimits)
   unfolding edition
   other-edition h = rw (e, ne-eqb n 1 h)
 
@@ -29,17 +30,17 @@ module _ (s : List ℕ) (n a : ℕ) (e : number s 0 ≡ got n a) where
 
 -- ---- the two fields after it
 
-pub no-fields : (s : List ℕ) (r : Refusal) → edition s 0 ≡ refused r → editionFields s 0 ≡ refused r
+pub no-fields : (s : List ℕ) (r : Fault) → edition s 0 ≡ refused r → editionFields s 0 ≡ refused r
 unfolding editionFields
 no-fields s r e = rw e
 
 module _ (s : List ℕ) (n a : ℕ) (e₁ : edition s 0 ≡ got n a) where
-  pub no-first : (r : Refusal) → number s a ≡ refused r → editionFields s 0 ≡ refused r
+  pub no-first : (r : Fault) → number s a ≡ refused r → editionFields s 0 ≡ refused r
   unfolding editionFields
   no-first r e = rw (e₁, e)
 
   module _ (first b : ℕ) (e₂ : number s a ≡ got first b) where
-    pub no-second : (r : Refusal) → number s b ≡ refused r → editionFields s 0 ≡ refused r
+    pub no-second : (r : Fault) → number s b ≡ refused r → editionFields s 0 ≡ refused r
     unfolding editionFields
     no-second r e = rw (e₁, e₂, e)
 

@@ -7,10 +7,12 @@ use native.Mathlib.Omega.{arith}
 use lib.Dec.{ltb, eqb}
 use lib.ListN.{drop}
 use Rattle.base.specs.Notation.{if_then_else_}
-use Rattle.base.specs.declared.Refusal.the-variants.{NumberMalformed, OutOfLimits}
+use Rattle.base.specs.Refusal.{unplaced}
+use Rattle.base.specs.declared.Refusal.the-variants.{NumberNotShortest, OutOfLimits}
 use Rattle.varint.specs.Reader.{Read, got, refused}
 use Rattle.varint.specs.Groups.{under, dec, decode, number}
 use Rattle.varint.specs.Edition.{edition, EditionFields, editionFields}
+use Rattle.varint.proofs.Forms.{begun-got}
 use Rattle.varint.proofs.Reader.{came, held, returned}
 
 -- what is left of the groups ends after its place
@@ -28,20 +30,24 @@ dec-onward (suc g) least at (x ∷ xs) n next e = go (ltb x 128) (ltb x least) (
         omega (arith, ih m j f)
     more ih (refused r) f k = absurd (let z : _≡_ {A = ℕ} 0 1 = cc in omega arith)
 
-    go : (a b : Bool) → Deeper g (suc at) xs → (if a then (if b then refused NumberMalformed else got x (suc at)) else under (x - 128) (dec g 1 (suc at) xs)) ≡ got n next → at < next
+    go : (a b : Bool) → Deeper g (suc at) xs → (if a then (if b then refused (unplaced NumberNotShortest) else got x (suc at)) else under (x - 128) (dec g 1 (suc at) xs)) ≡ got n next → at < next
     go true true ih k = absurd (let z : _≡_ {A = ℕ} 0 1 = cc in omega arith)
     go true false ih k =
         let same : suc at ≡ next = cc in
         omega arith
     go false b ih k = more ih (dec g 1 (suc at) xs) refl k
 
+number-onward : (s : List ℕ) (at n next : ℕ) → decode s at ≡ got n next → at < next
+unfolding decode
+number-onward s at n next e = dec-onward 6 0 at (drop at s) n next (begun-got at (dec 6 0 at (drop at s)) n next e)
+
 pub field-onward : (s : List ℕ) (at n next : ℕ) → number s at ≡ got n next → at < next
-unfolding number decode
+unfolding number
 field-onward s at n next e =
-    let c = came s _ (dec 6 0 at (drop at s)) n next e in
+    let c = came s _ (decode s at) n next e in
     let t = held s _ (ltb (c .value) (2 ^ 36)) OutOfLimits (c .at) n next (c .rest) in
     let same : c .at ≡ next = returned (c .value) n (c .at) next (t .1) .1 in
-    omega (arith, dec-onward 6 0 at (drop at s) (c .value) (c .at) (c .field))
+    omega (arith, number-onward s at (c .value) (c .at) (c .field))
 
 edition-onward : (s : List ℕ) (at n next : ℕ) → edition s at ≡ got n next → at < next
 unfolding edition

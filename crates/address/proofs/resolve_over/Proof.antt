@@ -2,7 +2,7 @@
 use native.Mathlib.Omega.{arith}
 use lib.ListN.{length-take}
 use Rattle.case.proofs.Opening.{refused-case, accepted-case}
-use Rattle.address.proofs.Answers.{refused-find, found, answered}
+use Rattle.address.proofs.Answers.{refused-answer, answered}
 use borrow.Author.Needs.{needs}
 use Rattle.address.proofs.resolve_over.Statement.{statement}
 use Rattle.address.proofs.resolve_over.Tie as tie
@@ -10,11 +10,11 @@ use Rattle.address.proofs.resolve_over.Tie as tie
 open-case-requires : tie.Need-open-case-requires
 open-case-requires c κs = search needs
 
-enum-known-refusal : tie.Need-enum-known-refusal
-enum-known-refusal c = search needs
+enum-known-fault : tie.Need-enum-known-fault
+enum-known-fault c = search needs
 
-refuse-requires : tie.Need-refuse-requires
-refuse-requires c κs = search needs
+fault-answer-requires : tie.Need-fault-answer-requires
+fault-answer-requires c κs = search needs
 
 enum-known-space : tie.Need-enum-known-space
 enum-known-space c = search needs
@@ -45,7 +45,7 @@ same-length c = search needs
 returns : tie.Need-returns
 returns c =
     let at-open-case = c .before .before .before .before .before .before in
-    rw (c .refuse .ensures) (answered _ _ _ (refused-find _ _ _ (refused-case _ _ _ _ _ (at-open-case .open-case .ensures) (c .before .before .refusal .given .1))))
+    rw (c .fault-answer .ensures) (refused-answer _ _ _ (refused-case _ _ _ _ _ (at-open-case .open-case .ensures) (c .before .before .fault .given .1)))
 
 same-length-2 : tie.Need-same-length-2
 same-length-2 c = search needs
@@ -55,15 +55,15 @@ returns-2 c =
     let at-space = c .before .before .before .before in
     let at-open = at-space .before .before .before .before in
     let opened = accepted-case _ _ _ _ _ _ (at-open .before .before .before .before .before .before .pre) (at-open .open-case .ensures) (at-space .space .given .1) in
-    rw (c .answer-of .ensures) (answered _ _ _ (found _ _ _ _ _ opened _ (c .before .resolve-in .ensures)))
+    rw (c .answer-of .ensures) (answered _ _ _ _ _ opened _ (c .before .resolve-in .ensures))
 
 pub resolve-over-spec : {M : Type 1} → statement M
 resolve-over-spec =
     tie.close
     (tie.spec
     open-case-requires
-    enum-known-refusal
-    refuse-requires
+    enum-known-fault
+    fault-answer-requires
     enum-known-space
     slice-reshare-prefix-resolve-in
     slice-aggregate-resolve-in

@@ -8,8 +8,8 @@ use Rattle.case.proofs.open_case.Tie as tie
 read-sheet-requires : tie.Need-read-sheet-requires
 read-sheet-requires c κs = search needs
 
-enum-known-refusal : tie.Need-enum-known-refusal
-enum-known-refusal c = search needs
+enum-known-fault : tie.Need-enum-known-fault
+enum-known-fault c = search needs
 
 enum-known-header : tie.Need-enum-known-header
 enum-known-header c = search needs
@@ -23,7 +23,7 @@ same-length : tie.Need-same-length
 same-length c = search needs
 
 returns : tie.Need-returns
-returns c = sheet-refused _ _ _ _ _ (c .before .before .before .before .before .read-sheet .ensures) (c .before .refusal .given .1)
+returns c = sheet-refused _ _ _ _ _ (c .before .before .before .before .before .read-sheet .ensures) (c .before .fault .given .1)
 
 same-length-2 : tie.Need-same-length-2
 same-length-2 c = search needs
@@ -38,7 +38,7 @@ open-case-spec =
     tie.close
     (tie.spec
     read-sheet-requires
-    enum-known-refusal
+    enum-known-fault
     enum-known-header
     mul-t16
     same-length

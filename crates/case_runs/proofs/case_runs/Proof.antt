@@ -15,17 +15,17 @@ slice-aggregate-read-sheet c = simp length-take (omega arith)
 read-sheet-requires : tie.Need-read-sheet-requires
 read-sheet-requires c κs = search needs
 
-enum-known-refusal : tie.Need-enum-known-refusal
-enum-known-refusal c = search needs
+enum-known-fault : tie.Need-enum-known-fault
+enum-known-fault c = search needs
 
-refuse-requires : tie.Need-refuse-requires
-refuse-requires c κs = search needs
+fault-case-requires : tie.Need-fault-case-requires
+fault-case-requires c κs = search needs
 
 enum-known-header : tie.Need-enum-known-header
 enum-known-header c = search needs
 
-refuse-requires-2 : tie.Need-refuse-requires-2
-refuse-requires-2 c κs = search needs
+refuse-requires : tie.Need-refuse-requires
+refuse-requires c κs = search needs
 
 same-length : tie.Need-same-length
 same-length c = search needs
@@ -34,7 +34,7 @@ returns : tie.Need-returns
 returns c =
     let at-read = c .before .before .before .before .before .before .before in
     short-buffer _ _ _ _ _ _ (at-read .read-sheet .ensures) (at-read .read-sheet .kept .1 .1 .1 .0) _ (c .before .before .before .header .given .1)
-    (omega (arith, c .before .if1 .taken)) _ (c .refuse2 .ensures)
+    (omega (arith, c .before .if1 .taken)) _ (c .refuse .ensures)
 
 mul-n : tie.Need-mul-n
 mul-n c = search needs
@@ -71,7 +71,7 @@ same-length-2 c = search needs
 returns-2 : tie.Need-returns-2
 returns-2 c =
     let at-read = c .before .before .before .before .before .before in
-    refused-sheet _ _ _ _ _ _ (at-read .read-sheet .ensures) (at-read .read-sheet .kept .1 .1 .1 .0) _ (c .before .before .refusal .given .1) _ (c .refuse .ensures)
+    refused-sheet _ _ _ _ _ _ (at-read .read-sheet .ensures) (at-read .read-sheet .kept .1 .1 .1 .0) _ (c .before .before .fault .given .1) _ (c .fault-case .ensures)
 
 same-length-3 : tie.Need-same-length-3
 same-length-3 c = search needs
@@ -93,10 +93,10 @@ case-runs-spec =
     slice-relend-prefix-read-sheet
     slice-aggregate-read-sheet
     read-sheet-requires
-    enum-known-refusal
-    refuse-requires
+    enum-known-fault
+    fault-case-requires
     enum-known-header
-    refuse-requires-2
+    refuse-requires
     same-length
     returns
     mul-n

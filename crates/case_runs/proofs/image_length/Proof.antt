@@ -15,11 +15,11 @@ slice-aggregate-read-fields c = search needs
 read-fields-requires : tie.Need-read-fields-requires
 read-fields-requires c κs = search needs
 
-enum-known-refusal : tie.Need-enum-known-refusal
-enum-known-refusal c = search needs
+enum-known-fault : tie.Need-enum-known-fault
+enum-known-fault c = search needs
 
-not-written-requires : tie.Need-not-written-requires
-not-written-requires c κs = search needs
+fault-written-requires : tie.Need-fault-written-requires
+fault-written-requires c κs = search needs
 
 enum-known-pages : tie.Need-enum-known-pages
 enum-known-pages c = search needs
@@ -32,7 +32,7 @@ mul-length c =
 returns : tie.Need-returns
 returns c =
     let at-fields = c .before .before .before .before .before in
-    no-length _ _ (no-fields-found _ _ _ _ _ (at-fields .read-fields .ensures) (c .before .before .refusal .given .1)) _ (c .not-written .ensures)
+    no-length _ _ (no-fields-found _ _ _ _ _ (at-fields .read-fields .ensures) (c .before .before .fault .given .1)) _ (c .fault-written .ensures)
 
 returns-2 : tie.Need-returns-2
 returns-2 c =
@@ -46,8 +46,8 @@ image-length-spec =
     array-borrow-prefix-rows
     slice-aggregate-read-fields
     read-fields-requires
-    enum-known-refusal
-    not-written-requires
+    enum-known-fault
+    fault-written-requires
     enum-known-pages
     mul-length
     returns

@@ -10,11 +10,11 @@ use Rattle.lookup.proofs.lookup.Tie as tie
 read-header-requires : tie.Need-read-header-requires
 read-header-requires c κs = search needs
 
-enum-known-refusal : tie.Need-enum-known-refusal
-enum-known-refusal c = search needs
+enum-known-fault : tie.Need-enum-known-fault
+enum-known-fault c = search needs
 
-refuse-requires : tie.Need-refuse-requires
-refuse-requires c κs = search needs
+fault-found-requires : tie.Need-fault-found-requires
+fault-found-requires c κs = search needs
 
 enum-known-header : tie.Need-enum-known-header
 enum-known-header c = search needs
@@ -29,11 +29,11 @@ read-page-requires c κs =
     let header = header-got _ _ _ _ (at-header .read-header .ensures) (c .before .before .header .given .1) in
     asked-count (now (given .map)) (given .address) _ _ header _ (c .asked-page .ensures)
 
-enum-known-refusal-2 : tie.Need-enum-known-refusal-2
-enum-known-refusal-2 c = search needs
+enum-known-fault-2 : tie.Need-enum-known-fault-2
+enum-known-fault-2 c = search needs
 
-refuse-requires-2 : tie.Need-refuse-requires-2
-refuse-requires-2 c κs = search needs
+fault-found-requires-2 : tie.Need-fault-found-requires-2
+fault-found-requires-2 c κs = search needs
 
 enum-known-page : tie.Need-enum-known-page
 enum-known-page c = search needs
@@ -43,15 +43,15 @@ answer-requires c κs = file-below _ _ (c .before .page .given .1) (c .before .b
 
 returns : tie.Need-returns
 returns c =
-    let same = no-header _ _ _ (header-refused _ _ _ (c .before .before .before .before .read-header .ensures) (c .before .before .refusal .given .1)) in
-    promised _ _ _ (rw (c .refuse .ensures) same)
+    let same = no-header _ _ _ (header-refused _ _ _ (c .before .before .before .before .read-header .ensures) (c .before .before .fault .given .1)) in
+    promised _ _ _ (rw (c .fault-found .ensures) same)
 
 returns-2 : tie.Need-returns-2
 returns-2 c =
     let at-asked = c .before .before .before .before .before in
     let header = header-got _ _ _ _ (at-asked .before .before .before .before .read-header .ensures) (at-asked .before .before .header .given .1) in
-    let same = no-extents _ _ _ _ header _ (at-asked .asked-page .ensures) _ (c .before .before .before .before .read-page .ensures .0) _ (c .before .before .refusal2 .given .1) in
-    promised _ _ _ (rw (c .refuse2 .ensures) same)
+    let same = no-extents _ _ _ _ header _ (at-asked .asked-page .ensures) _ (c .before .before .before .before .read-page .ensures .0) _ (c .before .before .fault2 .given .1) in
+    promised _ _ _ (rw (c .fault-found2 .ensures) same)
 
 returns-3 : tie.Need-returns-3
 returns-3 c =
@@ -65,13 +65,13 @@ lookup-spec =
     tie.close
     (tie.spec
     read-header-requires
-    enum-known-refusal
-    refuse-requires
+    enum-known-fault
+    fault-found-requires
     enum-known-header
     asked-page-requires
     read-page-requires
-    enum-known-refusal-2
-    refuse-requires-2
+    enum-known-fault-2
+    fault-found-requires-2
     enum-known-page
     answer-requires
     returns

@@ -19,12 +19,12 @@ loop-holds c = let given = c .before .args in starts (now (given .s)) (given .fr
 read-extent-requires : tie.Need-read-extent-requires Inv-loop μ-loop
 read-extent-requires c κs = c .before .loop .inv .limits
 
-enum-known-refusal : tie.Need-enum-known-refusal Inv-loop μ-loop
-enum-known-refusal c = search needs
+enum-known-fault : tie.Need-enum-known-fault Inv-loop μ-loop
+enum-known-fault c = search needs
 
 returns : tie.Need-returns Inv-loop μ-loop
 returns c =
-    let no-extent = extent-refused _ _ _ (c .before .before .before .read-extent .ensures) (c .before .refusal .given .1) in
+    let no-extent = extent-refused _ _ _ (c .before .before .before .read-extent .ensures) (c .before .fault .given .1) in
     (no-extent-read (c .before .before .before .before .before .loop .inv) (c .before .before .before .before .loop-test .taken) _ no-extent, tt)
 
 enum-known-e : tie.Need-enum-known-e Inv-loop μ-loop
@@ -48,8 +48,11 @@ loop-again c =
     let taken = extent-got _ _ _ _ (at-extent .read-extent .ensures) (c .before .before .before .e .given .1) in
     rw (c .before .note .ensures) (again (at-extent .before .before .loop .inv) (at-extent .before .loop-test .taken) _ _ taken)
 
+unplaced-requires : tie.Need-unplaced-requires Inv-loop μ-loop
+unplaced-requires c κs = search needs
+
 returns-2 : tie.Need-returns-2 Inv-loop μ-loop
-returns-2 c = (trailing (c .before .before .loop .inv) (c .before .loop-test .left) (c .if1 .taken), tt)
+returns-2 c = (rw (c .unplaced .ensures) (trailing (c .before .before .before .loop .inv) (c .before .before .loop-test .left) (c .before .if1 .taken)), tt)
 
 returns-3 : tie.Need-returns-3 Inv-loop μ-loop
 returns-3 c = (answered (c .before .before .loop .inv) (c .before .loop-test .left) (c .if1 .left) (c .before .before .before .before .pre), c .before .before .loop .inv .low)
@@ -62,7 +65,7 @@ read-page-spec =
     μ-loop
     loop-holds
     read-extent-requires
-    enum-known-refusal
+    enum-known-fault
     returns
     enum-known-e
     sub-note
@@ -70,5 +73,6 @@ read-page-spec =
     sub-left
     loop-less
     loop-again
+    unplaced-requires
     returns-2
     returns-3)

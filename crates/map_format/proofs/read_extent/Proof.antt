@@ -10,8 +10,8 @@ use Rattle.map_format.proofs.read_extent.Tie as tie
 read-field-requires : tie.Need-read-field-requires
 read-field-requires c κs = search needs
 
-enum-known-refusal : tie.Need-enum-known-refusal
-enum-known-refusal c = search needs
+enum-known-fault : tie.Need-enum-known-fault
+enum-known-fault c = search needs
 
 enum-known-code : tie.Need-enum-known-code
 enum-known-code c = search needs
@@ -19,16 +19,19 @@ enum-known-code c = search needs
 is-code-requires : tie.Need-is-code-requires
 is-code-requires c κs = search needs
 
+unplaced-requires : tie.Need-unplaced-requires
+unplaced-requires c κs = search needs
+
 returns : tie.Need-returns
 returns c =
-    let code = value-got _ _ _ _ (c .before .before .before .before .before .read-field .ensures) (c .before .before .before .code .given .1) in
-    rw (no-such-code _ _ _ _ _ _ code (sym (c .before .is-code .ensures) ∙ not-true _ (c .if1 .taken)))
+    let code = value-got _ _ _ _ (c .before .before .before .before .before .before .read-field .ensures) (c .before .before .before .before .code .given .1) in
+    rw (c .unplaced .ensures, no-such-code _ _ _ _ _ _ code (sym (c .before .before .is-code .ensures) ∙ not-true _ (c .before .if1 .taken)))
 
 read-field-requires-2 : tie.Need-read-field-requires-2
 read-field-requires-2 c κs = search needs
 
-enum-known-refusal-2 : tie.Need-enum-known-refusal-2
-enum-known-refusal-2 c = search needs
+enum-known-fault-2 : tie.Need-enum-known-fault-2
+enum-known-fault-2 c = search needs
 
 enum-known-pages : tie.Need-enum-known-pages
 enum-known-pages c = search needs
@@ -36,8 +39,8 @@ enum-known-pages c = search needs
 read-first-requires : tie.Need-read-first-requires
 read-first-requires c κs = search needs
 
-enum-known-refusal-3 : tie.Need-enum-known-refusal-3
-enum-known-refusal-3 c = search needs
+enum-known-fault-3 : tie.Need-enum-known-fault-3
+enum-known-fault-3 c = search needs
 
 enum-known-first : tie.Need-enum-known-first
 enum-known-first c = search needs
@@ -54,14 +57,14 @@ judge-extent-requires c κs =
     (start .pre, in-limits _ _ (start .args .left) (start .args .prev) _ _ code listed _ _ pages _ _ first)
 
 returns-2 : tie.Need-returns-2
-returns-2 c = rw (no-code _ _ _ _ _ (refused-bad _ _ _ (c .before .before .before .read-field .ensures) (c .before .refusal .given .1)))
+returns-2 c = rw (no-code _ _ _ _ _ (refused-bad _ _ _ (c .before .before .before .read-field .ensures) (c .before .fault .given .1)))
 
 returns-3 : tie.Need-returns-3
 returns-3 c =
     let at-code = c .before .before .before .before in
     let code = value-got _ _ _ _ (at-code .before .before .before .before .before .read-field .ensures) (at-code .before .before .before .code .given .1) in
     let listed = sym (at-code .before .is-code .ensures) ∙ not-false _ (at-code .if1 .left) in
-    let no-number = refused-bad _ _ _ (c .before .before .before .read-field2 .ensures) (c .before .refusal2 .given .1) in
+    let no-number = refused-bad _ _ _ (c .before .before .before .read-field2 .ensures) (c .before .fault2 .given .1) in
     rw (no-length _ _ _ _ _ _ code listed _ no-number)
 
 returns-4 : tie.Need-returns-4
@@ -71,7 +74,7 @@ returns-4 c =
     let code = value-got _ _ _ _ (at-code .before .before .before .before .before .read-field .ensures) (at-code .before .before .before .code .given .1) in
     let listed = sym (at-code .before .is-code .ensures) ∙ not-false _ (at-code .if1 .left) in
     let pages = value-got _ _ _ _ (at-pages .before .before .read-field2 .ensures) (at-pages .pages .given .1) in
-    let no-number = refused-bad _ _ _ (c .before .before .before .read-first .ensures) (c .before .refusal3 .given .1) in
+    let no-number = refused-bad _ _ _ (c .before .before .before .read-first .ensures) (c .before .fault3 .given .1) in
     rw (no-first _ _ _ _ _ _ code listed _ _ pages _ no-number)
 
 returns-5 : tie.Need-returns-5
@@ -90,15 +93,16 @@ read-extent-spec =
     tie.close
     (tie.spec
     read-field-requires
-    enum-known-refusal
+    enum-known-fault
     enum-known-code
     is-code-requires
+    unplaced-requires
     returns
     read-field-requires-2
-    enum-known-refusal-2
+    enum-known-fault-2
     enum-known-pages
     read-first-requires
-    enum-known-refusal-3
+    enum-known-fault-3
     enum-known-first
     judge-extent-requires
     returns-2

@@ -12,11 +12,11 @@ use Rattle.maps.proofs.map_over.Tie as tie
 open-case-requires : tie.Need-open-case-requires
 open-case-requires c κs = search needs
 
-enum-known-refusal : tie.Need-enum-known-refusal
-enum-known-refusal c = search needs
+enum-known-fault : tie.Need-enum-known-fault
+enum-known-fault c = search needs
 
-not-written-requires : tie.Need-not-written-requires
-not-written-requires c κs = search needs
+fault-written-requires : tie.Need-fault-written-requires
+fault-written-requires c κs = search needs
 
 enum-known-space : tie.Need-enum-known-space
 enum-known-space c = search needs
@@ -24,8 +24,8 @@ enum-known-space c = search needs
 is-allowed-requires : tie.Need-is-allowed-requires
 is-allowed-requires c κs = search needs
 
-not-written-requires-2 : tie.Need-not-written-requires-2
-not-written-requires-2 c κs = search needs
+not-written-requires : tie.Need-not-written-requires
+not-written-requires c κs = search needs
 
 same-length : tie.Need-same-length
 same-length c = search needs
@@ -35,7 +35,7 @@ returns c =
     let at-space = c .before .before .before .before in
     let at-open = at-space .before .before .before .before in
     let opened = accepted-case _ _ _ _ _ _ (at-open .before .before .before .before .before .before .before .pre) (at-open .open-case .ensures) (at-space .space .given .1) in
-    refused-range _ _ _ _ _ _ _ opened (sym (c .before .before .is-allowed .ensures) ∙ not-true _ (c .before .if1 .taken)) _ (c .not-written2 .ensures)
+    refused-range _ _ _ _ _ _ _ opened (sym (c .before .before .is-allowed .ensures) ∙ not-true _ (c .before .if1 .taken)) _ (c .not-written .ensures)
 
 slice-reshare-prefix-map-in : tie.Need-slice-reshare-prefix-map-in
 slice-reshare-prefix-map-in c =
@@ -64,7 +64,7 @@ same-length-2 c = search needs
 returns-2 : tie.Need-returns-2
 returns-2 c =
     let at-open-case = c .before .before .before .before .before .before in
-    refused-case-map _ _ _ _ _ (refused-case _ _ _ _ _ (at-open-case .open-case .ensures) (c .before .before .refusal .given .1)) _ (c .not-written .ensures)
+    refused-case-map _ _ _ _ _ (refused-case _ _ _ _ _ (at-open-case .open-case .ensures) (c .before .before .fault .given .1)) _ (c .fault-written .ensures)
 
 same-length-3 : tie.Need-same-length-3
 same-length-3 c = search needs
@@ -85,11 +85,11 @@ map-over-spec =
     tie.close
     (tie.spec
     open-case-requires
-    enum-known-refusal
-    not-written-requires
+    enum-known-fault
+    fault-written-requires
     enum-known-space
     is-allowed-requires
-    not-written-requires-2
+    not-written-requires
     same-length
     returns
     slice-reshare-prefix-map-in

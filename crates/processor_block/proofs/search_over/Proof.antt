@@ -10,11 +10,11 @@ use Rattle.processor_block.proofs.search_over.Tie as tie
 open-case-requires : tie.Need-open-case-requires
 open-case-requires c κs = search needs
 
-enum-known-refusal : tie.Need-enum-known-refusal
-enum-known-refusal c = search needs
+enum-known-fault : tie.Need-enum-known-fault
+enum-known-fault c = search needs
 
-refuse-requires : tie.Need-refuse-requires
-refuse-requires c κs = search needs
+fault-answer-requires : tie.Need-fault-answer-requires
+fault-answer-requires c κs = search needs
 
 enum-known-n : tie.Need-enum-known-n
 enum-known-n c = search needs
@@ -46,7 +46,7 @@ same-length c = search needs
 returns : tie.Need-returns
 returns c =
     let at-open-case = c .before .before .before .before .before .before in
-    rw (c .refuse .ensures) (refused-search _ _ _ (refused-case _ _ _ _ _ (at-open-case .open-case .ensures) (c .before .before .refusal .given .1)))
+    rw (c .fault-answer .ensures) (refused-search _ _ _ (refused-case _ _ _ _ _ (at-open-case .open-case .ensures) (c .before .before .fault .given .1)))
 
 same-length-2 : tie.Need-same-length-2
 same-length-2 c = search needs
@@ -63,8 +63,8 @@ search-over-spec =
     tie.close
     (tie.spec
     open-case-requires
-    enum-known-refusal
-    refuse-requires
+    enum-known-fault
+    fault-answer-requires
     enum-known-n
     slice-reshare-prefix-search
     slice-aggregate-search

@@ -7,8 +7,8 @@ use Rattle.sheet.proofs.read_sheet.Tie as tie
 read-fields-requires : tie.Need-read-fields-requires
 read-fields-requires c κs = search needs
 
-enum-known-refusal : tie.Need-enum-known-refusal
-enum-known-refusal c = search needs
+enum-known-fault : tie.Need-enum-known-fault
+enum-known-fault c = search needs
 
 enum-known-header : tie.Need-enum-known-header
 enum-known-header c = search needs
@@ -21,7 +21,7 @@ check-lengths-requires c κs =
 returns : tie.Need-returns
 returns c =
     let at-fields = c .before .before .before .before .before in
-    faulty _ _ _ _ _ _ (no-fields-found _ _ _ _ _ (at-fields .read-fields .ensures) (c .before .refusal .given .1))
+    faulty _ _ _ _ _ _ (no-fields-found _ _ _ _ _ (at-fields .read-fields .ensures) (c .before .fault .given .1))
 
 returns-2 : tie.Need-returns-2
 returns-2 c =
@@ -39,7 +39,7 @@ read-sheet-spec =
     tie.close
     (tie.spec
     read-fields-requires
-    enum-known-refusal
+    enum-known-fault
     enum-known-header
     check-lengths-requires
     same-length

@@ -8,17 +8,25 @@ use Rattle.varint.proofs.read_edition.Tie as tie
 read-field-requires : tie.Need-read-field-requires
 read-field-requires c κs = search needs
 
-enum-known-refusal : tie.Need-enum-known-refusal
-enum-known-refusal c = search needs
+enum-known-fault : tie.Need-enum-known-fault
+enum-known-fault c = search needs
 
 enum-known-n : tie.Need-enum-known-n
 enum-known-n c = search needs
 
+unplaced-requires : tie.Need-unplaced-requires
+unplaced-requires c κs = search needs
+
 returns : tie.Need-returns
-returns c = rw (other-edition _ _ _ (value-got _ _ _ _ (c .before .before .before .before .read-field .ensures) (c .before .before .n .given .1)) (c .if1 .taken))
+returns c =
+    let at-if = c .before in
+    rw (
+      c .unplaced .ensures,
+      other-edition _ _ _ (value-got _ _ _ _ (at-if .before .before .before .before .read-field .ensures) (at-if .before .before .n .given .1)) (at-if .if1 .taken),
+    )
 
 returns-2 : tie.Need-returns-2
-returns-2 c = rw (no-edition _ _ (refused-bad _ _ _ (c .before .before .before .read-field .ensures) (c .before .refusal .given .1)))
+returns-2 c = rw (no-edition _ _ (refused-bad _ _ _ (c .before .before .before .read-field .ensures) (c .before .fault .given .1)))
 
 returns-3 : tie.Need-returns-3
 returns-3 c = rw (one-edition _ _ _ (value-got _ _ _ _ (c .before .before .before .before .read-field .ensures) (c .before .before .n .given .1)) (c .if1 .left))
@@ -26,4 +34,4 @@ returns-3 c = rw (one-edition _ _ _ (value-got _ _ _ _ (c .before .before .befor
 pub read-edition-spec : {M : Type 1} → statement M
 read-edition-spec =
     tie.close
-    (tie.spec read-field-requires enum-known-refusal enum-known-n returns returns-2 returns-3)
+    (tie.spec read-field-requires enum-known-fault enum-known-n unplaced-requires returns returns-2 returns-3)
