@@ -52,10 +52,13 @@ pub fn fault_answer(fault: Fault) -> Answer
     ensures { λ a. ⌜ a ≡ faultAnswer fault ⌝ }
 {
     let refusal = fault.refusal;
+    let number = refusal.number();
+    let position = fault.shown_position();
+    let entries = 0;
     Answer {
-        number: refusal.number(),
-        offset: fault.shown_position(),
-        entries: 0,
+        number,
+        offset: position,
+        entries,
     }
 }
 

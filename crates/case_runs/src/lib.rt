@@ -72,10 +72,13 @@ fn fault_case(fault: Fault) -> CaseRead
     ensures { λ r. ⌜ r ≡ faultCase fault ⌝ }
 {
     let refusal = fault.refusal;
+    let number = refusal.number();
+    let position = fault.shown_position();
+    let directory = 0;
     CaseRead {
-        number: refusal.number(),
-        directory: 0,
-        length: fault.shown_position(),
+        number,
+        directory,
+        length: position,
     }
 }
 

@@ -59,9 +59,11 @@ fn fault_found(fault: Fault) -> Found
     ensures { λ r. ⌜ r ≡ faultFound fault ⌝ }
 {
     let refusal = fault.refusal;
+    let number = refusal.number();
+    let position = fault.shown_position();
     Found {
-        number: refusal.number(),
-        offset: fault.shown_position(),
+        number,
+        offset: position,
     }
 }
 

@@ -3,7 +3,7 @@ use mathlib.Core.Path.{refl}
 use mathlib.Core.List.{List, [], _∷_}
 use Prim.Native.Nat.{ℕ}
 use Rattle.base.specs.Example.{Example, same, Hold}
-use Rattle.base.specs.Refusal.{refusalNumber}
+use Rattle.base.specs.Refusal.{refusalNumber, shownPosition}
 use Rattle.base.specs.Codes.{isCode}
 use Rattle.varint.specs.Reader.{Read, got, refused}
 use Rattle.varint.specs.Groups.{encode, decode, number}
@@ -66,3 +66,32 @@ orders =
 pub orders-hold : Hold orders
 unfolding orders answer answer-of pageAfter mapFields headerFields editionFields edition extentsFrom extentFrom isCode sound number decode
 orders-hold = (refl, (refl, (refl, (refl, (refl, (refl, (refl, (refl, (refl, (refl, tt))))))))))
+
+-- ---- where a number is at fault
+
+-- the number and the position that it shows
+told : List ℕ → ℕ × ℕ
+told bytes = told-of (mapFields bytes 0)
+  where
+    told-of : Read Map → ℕ × ℕ
+    told-of (got m at) = (0, 0)
+    told-of (refused f) = (refusalNumber (f .refusal), shownPosition f)
+
+-- 18 and 11 in edition, start page, page count, a code, a length and a first page; 10, 12, 14 and 43 show none
+pub places : List Example
+places =
+    same (told (0x81 ∷ 0x00 ∷ [])) (18, 0)
+    ∷ same (told (0x01 ∷ 0x80 ∷ 0x80 ∷ 0x80 ∷ 0x80 ∷ 0x80 ∷ 0x80 ∷ [])) (11, 1)
+    ∷ same (told (0x01 ∷ 0x00 ∷ 0x82 ∷ 0x00 ∷ [])) (18, 2)
+    ∷ same (told (0x01 ∷ 0x00 ∷ 0x02 ∷ 0x83 ∷ 0x00 ∷ [])) (18, 3)
+    ∷ same (told (0x01 ∷ 0x00 ∷ 0x02 ∷ 0x03 ∷ 0x80 ∷ 0x80 ∷ 0x80 ∷ 0x80 ∷ 0x80 ∷ 0x80 ∷ [])) (11, 4)
+    ∷ same (told (0x01 ∷ 0x00 ∷ 0x02 ∷ 0x03 ∷ 0x01 ∷ 0x01 ∷ 0x01 ∷ 0x85 ∷ 0x00 ∷ [])) (18, 7)
+    ∷ same (told (0x01 ∷ 0x00 ∷ 0x02 ∷ 0x01 ∷ 0x80 ∷ [])) (10, 0)
+    ∷ same (told (0x01 ∷ 0x80 ∷ 0x80 ∷ 0x80 ∷ 0x80 ∷ 0x80 ∷ 0x02 ∷ [])) (12, 0)
+    ∷ same (told (0x01 ∷ 0x00 ∷ 0x02 ∷ 0x03 ∷ 0x02 ∷ 0x00 ∷ [])) (14, 0)
+    ∷ same (told (0x01 ∷ 0x00 ∷ 0x02 ∷ 0x04 ∷ [])) (43, 0)
+    ∷ []
+
+pub places-hold : Hold places
+unfolding places told shownPosition pageAfter mapFields headerFields editionFields edition extentsFrom extentFrom isCode sound number decode
+places-hold = (refl, (refl, (refl, (refl, (refl, (refl, (refl, (refl, (refl, (refl, tt))))))))))

@@ -9,3 +9,4 @@ pub mod OneExtent
 pub mod ReadBack
 pub mod WholeRead
 pub mod Examples
+pub mod Faults

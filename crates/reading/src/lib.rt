@@ -112,9 +112,11 @@ fn fault_bytes(fault: Fault) -> BytesRead
     ensures { λ r. ⌜ r ≡ faultBytes fault ⌝ }
 {
     let refusal = fault.refusal;
+    let number = refusal.number();
+    let position = fault.shown_position();
     BytesRead {
-        number: refusal.number(),
-        length: fault.shown_position(),
+        number,
+        length: position,
         zeros: 0,
     }
 }
