@@ -50,13 +50,14 @@ enum glint_kind {
 /* The numbers of the refusals, each as (name, number, kind, words). */
 #define GLINT_REFUSALS(X)                                                                       \
     X(TRUNCATED, 10, CASE, "sheet or map ends inside a number, or before its last field")       \
-    X(NUMBER_MALFORMED, 11, CASE, "number over 6 groups or not shortest")                       \
+    X(NUMBER_TOO_LONG, 11, CASE, "number over 6 groups")                                        \
     X(OUT_OF_LIMITS, 12, CASE, "edition, or a number outside its stated limits")                \
     X(BAD_RUN, 13, CASE, "run gap, length or end wrong")                                        \
     X(TRAILING_BYTES, 14, CASE, "bytes after the last field")                                   \
     X(IMAGE_LENGTH_DIFFERS, 15, CASE, "image length is not the sum of the runs")                \
     X(PAGEFILE_NOT_WHOLE_PAGES, 16, CASE, "pagefile length not a multiple of 4,096")            \
     X(SHEET_BUFFER_SHORT, 17, CALL, "sheet buffer too short")                                   \
+    X(NUMBER_NOT_SHORTEST, 18, CASE, "number not in its shortest form")                         \
     X(NOT_CANONICAL, 20, ADDRESS, "address not canonical, or past the top")                     \
     X(UPPER_ENTRY_NOT_VALID, 21, ADDRESS, "first or second level entry not valid")              \
     X(REGION_NEEDED, 22, ADDRESS, "region record needed")                                       \
@@ -100,24 +101,31 @@ enum {
 /* No map is longer: 1, 6 and 3 bytes before the extents, then at most 8 bytes a page (code 1, length 1, first page 6). */
 #define GLINT_MAP_BYTES ((size_t)10 + (size_t)8 * GLINT_MAP_PAGES)
 
-/* number: 1 or 2 (then offset is the addressed byte's in the image or pagefile), 3, or a refusal (offset is 0 for these);
- * entries: page table and prototype entries read, again if read again, at most 19. */
+/* A refusal by 11 or 18 hands back the position of the number at fault: the byte of the sheet or map, counted from its start,
+ * at which that number begins. Each record says in which field; glint_part has none for it. */
+
+/* number: 1 or 2 (then offset is the addressed byte's in the image or pagefile), 3, or a refusal (offset is the position for
+ * 11 and 18, and 0 for 3 and all other refusals); entries: page table and prototype entries read, again if read again, at
+ * most 19. */
 typedef struct { uint64_t number, offset, entries; } glint_answer;
 
-/* number: 0, or a refusal (then length and zeros are 0); length: bytes written; zeros: 1 if a byte came from a page of zeros. */
+/* number: 0, or a refusal (then length is the position for 11 and 18, else 0, and zeros is 0); length: bytes written; zeros:
+ * 1 if a byte came from a page of zeros. */
 typedef struct { uint64_t number, length, zeros; } glint_bytes;
 
 /* file: 1 image, 2 pagefile, 0 the empty part (then offset and length are 0). */
 typedef struct { uint64_t file, offset, length; } glint_part;
 
-/* number: 0, or a refusal (then length is 0); length: elements of `out` written, or of glint_image_length bytes. */
+/* number: 0, or a refusal (then length is the position for 11 and 18, else 0); length: elements of `out` written, or of
+ * glint_image_length bytes. */
 typedef struct { uint64_t number, length; } glint_written;
 
-/* number: 0, or a refusal (then directory and length are 0); directory: the frame of the top table; length: runs. */
+/* number: 0, or a refusal (then directory is 0, and length is the position for 11 and 18, else 0); directory: the frame of
+ * the top table; length: runs. */
 typedef struct { uint64_t number, directory, length; } glint_case_read;
 
 /* number: 1, 2, 3, 21 to 29 or 31 as the map has it, or a refusal of the lookup; offset: for 1 and 2 the addressed byte's,
- * else 0. */
+ * for 11 and 18 the position, else 0. */
 typedef struct { uint64_t number, offset; } glint_found;
 
 /* These two are plain C and not proved; the calls after them are. Their texts stay for the whole run. */
@@ -171,7 +179,7 @@ glint_written glint_process_list(const uint8_t *sheet, size_t sheet_length, cons
 glint_case_read glint_case(const uint8_t *sheet, size_t sheet_length, uint64_t image_length, uint64_t pagefile_length,
                            uint64_t *out, size_t out_length);
 
-/* The length in bytes that a sheet asks of its image, or the sheet's own fault, 10 to 14: what glint_case compares with
+/* The length in bytes that a sheet asks of its image, or the sheet's own fault, 10 to 14 or 18: what glint_case compares with
  * image_length for 15. */
 glint_written glint_image_length(const uint8_t *sheet, size_t sheet_length);
 

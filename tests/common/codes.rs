@@ -19,7 +19,7 @@ pub const PAGE_REFUSALS: &[u64] = match EXTENT_CODES {
 pub const PAGE_IN_STORE: u64 = 31;
 
 /// Refusals of a case as a whole.
-pub const CASE_REFUSALS: &[u64] = &[10, 11, 12, 13, 14, 15, 16];
+pub const CASE_REFUSALS: &[u64] = &[10, 11, 12, 13, 14, 15, 16, 18];
 
 /// The refusal of an address that no page can have.
 pub const NOT_CANONICAL: u64 = 20;
