@@ -14,6 +14,15 @@ pub struct CaseFiles {
 }
 
 impl CaseFiles {
+    /// The files of laid memory, which keeps none of its bytes.
+    pub fn taken_from(memory: &mut Memory) -> Self {
+        CaseFiles {
+            sheet: sheet_of(&memory.sheet_fields()),
+            image: std::mem::take(&mut memory.image),
+            pagefile: std::mem::take(&mut memory.pagefile),
+        }
+    }
+
     pub fn lent(&self) -> Files<'_> {
         Files {
             sheet: &self.sheet,

@@ -21,6 +21,9 @@ pub const PAGE_IN_STORE: u64 = 31;
 /// Refusals of a case as a whole.
 pub const CASE_REFUSALS: &[u64] = &[10, 11, 12, 13, 14, 15, 16, 18];
 
+/// The refusals of a number over 6 groups and of one not in its shortest form, which tell where it begins.
+pub const BAD_FORMS: &[u64] = &[11, 18];
+
 /// The refusal of an address that no page can have.
 pub const NOT_CANONICAL: u64 = 20;
 

@@ -5,7 +5,6 @@
 
 use super::case_files::CaseFiles;
 use super::codes::CASE_REFUSALS;
-use super::groups::sheet_of;
 use super::memory::{
     frames_in_runs, Memory, ENTRIES_IN_TABLE, FRAME_LIMIT, LAST_LEVEL, PAGE_BYTES,
 };
@@ -68,11 +67,7 @@ impl ManyRuns {
 
     /// The files of the case; the memory keeps none of its bytes.
     pub fn take_files(&mut self) -> CaseFiles {
-        CaseFiles {
-            sheet: sheet_of(&self.memory.sheet_fields()),
-            image: std::mem::take(&mut self.memory.image),
-            pagefile: std::mem::take(&mut self.memory.pagefile),
-        }
+        CaseFiles::taken_from(&mut self.memory)
     }
 }
 

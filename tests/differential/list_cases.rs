@@ -1,8 +1,8 @@
 //! The questions on which two block searches and two list readers are compared.
 
 use crate::block_cases::{damage_block, lay_blocks, offset_about};
+use crate::common::bad_forms::{BAD_FORM_CASES, SHEET};
 use crate::common::case_files::{damage_files, damage_tables, other_sheet, CaseFiles};
-use crate::common::groups::sheet_of;
 use crate::common::memory::{canonical, Home, Memory, EDGE_PAGES, LAST_LEVEL};
 use crate::common::random::Xorshift;
 use crate::common::small_case::small_case;
@@ -36,6 +36,45 @@ pub fn each_question(seed: u64, how_many: u64, take: &mut dyn FnMut(&CaseFiles, 
         }
         random = memory.random;
     }
+}
+
+/// Hands a search and a list to `take` with a bad form in each kind of field of a sheet.
+pub fn each_question_about_forms(seed: u64, take: &mut dyn FnMut(&CaseFiles, &Question)) {
+    let mut random = Xorshift::seeded(seed.rotate_left(32));
+    for _ in 0..BAD_FORM_CASES {
+        let mut memory = Memory::new(random);
+        let blocks = lay_blocks(&mut memory);
+        let pages = lay_pages(&mut memory);
+        let mut files = CaseFiles::taken_from(&mut memory);
+        let mut cells = Cells::beside_tables(&memory);
+        let ring = lay_ring(&mut files, &pages, &mut cells, &mut memory.random);
+        let from = offset_about(blocks[0], files.image.len(), &mut memory.random);
+        let list = Question::List {
+            head: head_about(&ring, &pages, &mut memory.random),
+            room: ring.nodes.len(),
+        };
+        ask_bad_forms(
+            &mut memory,
+            &mut files,
+            &[Question::Block { from }, list],
+            take,
+        );
+        random = memory.random;
+    }
+}
+
+/// Each of these questions with each bad form in each kind of field.
+pub fn ask_bad_forms(
+    memory: &mut Memory,
+    files: &mut CaseFiles,
+    questions: &[Question],
+    take: &mut dyn FnMut(&CaseFiles, &Question),
+) {
+    let fields = memory.sheet_fields();
+    SHEET.each_bad_form(&fields, &mut memory.random, &mut |sheet, _| {
+        files.sheet = sheet;
+        questions.iter().for_each(|question| take(files, question));
+    });
 }
 
 struct Questions<'t> {
@@ -78,18 +117,10 @@ impl Questions<'_> {
     }
 }
 
-fn take_files(memory: &mut Memory) -> CaseFiles {
-    CaseFiles {
-        sheet: sheet_of(&memory.sheet_fields()),
-        image: std::mem::take(&mut memory.image),
-        pagefile: std::mem::take(&mut memory.pagefile),
-    }
-}
-
 /// Searches in the case as laid, then with damaged blocks, tables, sheet and lengths.
 fn ask_blocks(memory: &mut Memory, questions: &mut Questions) {
     let blocks = lay_blocks(memory);
-    let mut files = take_files(memory);
+    let mut files = CaseFiles::taken_from(memory);
     questions.ask_from(&files, &blocks, 6, &mut memory.random);
     for _ in 0..2 {
         let block = blocks[memory.random.below(blocks.len() as u64) as usize];
@@ -116,7 +147,7 @@ fn ask_blocks(memory: &mut Memory, questions: &mut Questions) {
 /// Two lists as laid, each link's faults, then damaged tables, sheet and lengths.
 fn ask_lists(memory: &mut Memory, questions: &mut Questions) {
     let pages = lay_pages(memory);
-    let mut files = take_files(memory);
+    let mut files = CaseFiles::taken_from(memory);
     let mut cells = Cells::beside_tables(memory);
     let random = &mut memory.random;
     let rings = [(); 2].map(|()| lay_ring(&mut files, &pages, &mut cells, random));

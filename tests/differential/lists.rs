@@ -3,6 +3,7 @@
 #[path = "../common"]
 mod common {
     pub mod arguments;
+    pub mod bad_forms;
     pub mod case_files;
     pub mod codes;
     pub mod groups;
@@ -37,15 +38,16 @@ mod second {
 }
 
 use common::arguments;
+use common::bad_forms::{judge_stated, FormTimes, SHEET, STATED_SHEETS};
 use common::case_files::CaseFiles;
 use common::codes::{CASE_REFUSALS, NOT_CANONICAL, PAGE_REFUSALS};
 use common::many_runs::ByRuns;
 use common::print::{hex, with_commas};
 use common::tally::{print_table, Tally};
-use list_cases::{each_question, p11_files, Question, P11_HEAD};
+use list_cases::{each_question, each_question_about_forms, p11_files, Question, P11_HEAD};
 use lists_at_edges::each_question_about_runs;
 use second::lists::{process_list, processor_block};
-use second::slip::{Slip, LIST_SLIPS};
+use second::slip::{Slip, FORM_SLIPS, LIST_SLIPS};
 use second::walk::Files;
 use std::process::ExitCode;
 
@@ -70,12 +72,14 @@ const MOST_SHOWN: usize = 5;
 const GUARD: usize = 8;
 
 fn main() -> ExitCode {
-    arguments::run("lists", 50_000, LIST_SLIPS, |arguments| {
+    let slips = [LIST_SLIPS, FORM_SLIPS].concat();
+    arguments::run("lists", 50_000, &slips, |arguments| {
         let mut comparison = Comparison::new(arguments.slip);
         let mut compare =
             |files: &CaseFiles, question: &Question| comparison.compare(files, question);
         each_question(arguments.seed, arguments.cases, &mut compare);
         each_question_about_runs(arguments.seed, &mut compare);
+        each_question_about_forms(arguments.seed, &mut compare);
         report(&comparison)
     })
 }
@@ -88,6 +92,8 @@ struct Comparison {
     lists: Tally,
     blocks_by_runs: ByRuns,
     lists_by_runs: ByRuns,
+    blocks_by_forms: FormTimes,
+    lists_by_forms: FormTimes,
     /// The lists written, by their length in few steps.
     lengths: Tally,
     differing: u64,
@@ -104,6 +110,8 @@ impl Comparison {
             lists: Tally::new("list", list_numbers()),
             blocks_by_runs: ByRuns::new("block search", block_numbers()),
             lists_by_runs: ByRuns::new("list", list_numbers()),
+            blocks_by_forms: FormTimes::new("block search", &SHEET),
+            lists_by_forms: FormTimes::new("list", &SHEET),
             lengths: Tally::new("lists written", LENGTHS.to_vec()),
             differing: 0,
             shown: Vec::new(),
@@ -132,6 +140,8 @@ impl Comparison {
         let ours = processor_block(files, from, self.slip);
         self.blocks.count(ours.number);
         self.blocks_by_runs.count(files.sheet, ours.number);
+        self.blocks_by_forms
+            .count(files.sheet, ours.number, ours.offset);
         let theirs = [theirs.number, theirs.offset, theirs.entries];
         let ours = [ours.number, ours.offset, ours.entries];
         (theirs != ours).then(|| {
@@ -159,6 +169,8 @@ impl Comparison {
         let ours = process_list(files, head, &mut our_buffer[..room], self.slip);
         self.lists.count(ours.number);
         self.lists_by_runs.count(files.sheet, ours.number);
+        self.lists_by_forms
+            .count(files.sheet, ours.number, ours.length);
         if ours.number == 0 {
             self.lengths.count(length_class(ours.length));
         }
@@ -215,6 +227,8 @@ fn report(comparison: &Comparison) -> bool {
     print_table(&[&comparison.lengths]);
     comparison.blocks_by_runs.print();
     comparison.lists_by_runs.print();
+    comparison.blocks_by_forms.print();
+    comparison.lists_by_forms.print();
     comparison
         .shown
         .iter()
@@ -228,7 +242,10 @@ fn report(comparison: &Comparison) -> bool {
     reasons.extend(comparison.lengths.reasons(LENGTHS));
     reasons.extend(comparison.blocks_by_runs.reasons(&[1]));
     reasons.extend(comparison.lists_by_runs.reasons(&[0, 23]));
+    reasons.extend(comparison.blocks_by_forms.reasons());
+    reasons.extend(comparison.lists_by_forms.reasons());
     judge_p11(&mut reasons);
+    judge_stated_sheets(&mut reasons);
     reasons.iter().for_each(|reason| println!("{}", reason));
     if reasons.is_empty() {
         println!("lists: {} cases agree", with_commas(comparison.cases));
@@ -257,5 +274,36 @@ fn judge_p11(reasons: &mut Vec<String>) {
                 reasons.push(format!("P11: {:?} {:?}", answer, buffer));
             }
         }
+    }
+}
+
+/// Both readers' searches and lists against sheets that are refused as stated.
+fn judge_stated_sheets(reasons: &mut Vec<String>) {
+    for stated in &STATED_SHEETS {
+        let files = Files {
+            sheet: stated.0,
+            image: &[],
+            pagefile: &[],
+        };
+        let theirs = exports_lists::processor_block(files.sheet, &[], &[], 0);
+        let ours = processor_block(files, 0, Slip::None);
+        let theirs = [theirs.number, theirs.offset, theirs.entries];
+        judge_stated("exported search", stated, theirs, reasons);
+        let ours = [ours.number, ours.offset, ours.entries];
+        judge_stated("second search", stated, ours, reasons);
+        let theirs = exports_lists::process_list(files.sheet, &[], &[], 0, &mut []);
+        let ours = process_list(files, 0, &mut [], Slip::None);
+        judge_stated(
+            "exported list",
+            stated,
+            [theirs.number, theirs.length, 0],
+            reasons,
+        );
+        judge_stated(
+            "second list",
+            stated,
+            [ours.number, ours.length, 0],
+            reasons,
+        );
     }
 }

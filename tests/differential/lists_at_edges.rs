@@ -6,7 +6,7 @@ use crate::common::many_runs::{each_with_many_runs, Edges, ManyRuns};
 use crate::common::memory::PAGE_BYTES;
 use crate::common::random::Xorshift;
 use crate::links::{put, Ring};
-use crate::list_cases::Question;
+use crate::list_cases::{ask_bad_forms, Question};
 
 /// Hands questions about the edges of every run to `take`, in memory of more than 32 runs, then with damaged sheets.
 pub fn each_question_about_runs(seed: u64, take: &mut dyn FnMut(&CaseFiles, &Question)) {
@@ -70,7 +70,7 @@ fn lay_ring(run: &Edges, files: &mut CaseFiles, random: &mut Xorshift) -> Ring {
     ring
 }
 
-/// The first run's block and list with other sheets, then with damaged files.
+/// The first run's block and list with other sheets, then with damaged files, then with bad forms.
 fn ask_damaged(
     many: &mut ManyRuns,
     files: &mut CaseFiles,
@@ -94,4 +94,5 @@ fn ask_damaged(
     files.sheet = good_sheet;
     damage_files(files, &mut many.memory.random);
     questions.iter().for_each(|question| take(files, question));
+    ask_bad_forms(&mut many.memory, files, &questions, take);
 }

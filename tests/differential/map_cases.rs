@@ -1,7 +1,7 @@
 //! The ranges on which two map calls are compared, and the case that the paper states.
 
+use crate::common::bad_forms::{BAD_FORM_CASES, SHEET};
 use crate::common::case_files::{damage_files, damage_tables, other_sheet, CaseFiles};
-use crate::common::groups::sheet_of;
 use crate::common::many_runs::{each_with_many_runs, EDGES};
 use crate::common::memory::{canonical, Memory};
 use crate::common::random::Xorshift;
@@ -59,6 +59,36 @@ pub fn each_question_about_runs(seed: u64, take: &mut dyn FnMut(&CaseFiles, &Que
             other_sheet(&mut files, memory, fields);
             ask(&files, *range, &mut memory.random);
         }
+        ask_bad_forms(memory, &mut files, &ranges, take);
+    });
+}
+
+/// Hands questions to `take` with a bad form in each kind of field of a sheet.
+pub fn each_question_about_forms(seed: u64, take: &mut dyn FnMut(&CaseFiles, &Question)) {
+    let mut random = Xorshift::seeded(seed.rotate_left(32));
+    for _ in 0..BAD_FORM_CASES {
+        let mut memory = Memory::new(random);
+        let ranges = lay_short(&mut memory);
+        let mut files = CaseFiles::taken_from(&mut memory);
+        ask_bad_forms(&mut memory, &mut files, &ranges, take);
+        random = memory.random;
+    }
+}
+
+fn ask_bad_forms(
+    memory: &mut Memory,
+    files: &mut CaseFiles,
+    ranges: &[Range],
+    take: &mut dyn FnMut(&CaseFiles, &Question),
+) {
+    let fields = memory.sheet_fields();
+    SHEET.each_bad_form(&fields, &mut memory.random, &mut |sheet, random| {
+        files.sheet = sheet;
+        let range = ranges[random.below(ranges.len() as u64) as usize];
+        take(
+            files,
+            &question(files, range_about(range, random), room_for, random),
+        );
     });
 }
 
@@ -107,11 +137,7 @@ fn lay_short(memory: &mut Memory) -> Vec<Range> {
 /// Questions about the case as laid, then with damaged tables, then with a damaged sheet.
 fn ask_about(memory: &mut Memory, long: &[Range], short: &[Range], questions: &mut Questions) {
     let fields = memory.sheet_fields();
-    let mut files = CaseFiles {
-        sheet: sheet_of(&fields),
-        image: std::mem::take(&mut memory.image),
-        pagefile: std::mem::take(&mut memory.pagefile),
-    };
+    let mut files = CaseFiles::taken_from(memory);
     for range in long.iter().chain(short) {
         questions.ask(&files, *range, &mut memory.random);
     }

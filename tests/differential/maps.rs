@@ -3,6 +3,7 @@
 #[path = "../common"]
 mod common {
     pub mod arguments;
+    pub mod bad_forms;
     pub mod case_files;
     pub mod codes;
     pub mod groups;
@@ -30,18 +31,19 @@ mod second {
 }
 
 use common::arguments;
+use common::bad_forms::{self, FormTimes, MAP, SHEET, STATED_MAPS, STATED_SHEETS};
 use common::case_files::CaseFiles;
 use common::codes::{CASE_REFUSALS, EXTENT_CODES, NOT_CANONICAL};
 use common::many_runs::ByRuns;
 use common::print::{hex, with_commas};
 use common::tally::{print_table, Tally};
 use map_cases::{
-    each_question, each_question_about_runs, p2_files, store_files, Question, Stated, P2, STORE,
-    STORE_BEFORE,
+    each_question, each_question_about_forms, each_question_about_runs, p2_files, store_files,
+    Question, Stated, P2, STORE, STORE_BEFORE,
 };
 use other_maps::each_short_map;
-use second::map::{lookup, map, map_bytes, read_map};
-use second::slip::{Slip, MAP_SLIPS};
+use second::map::{lookup, map, map_bytes, read_map, Found};
+use second::slip::{Slip, FORM_SLIPS, MAP_SLIPS};
 use second::walk::{self, Files};
 use std::collections::HashSet;
 use std::process::ExitCode;
@@ -57,7 +59,7 @@ fn lookup_numbers() -> Vec<u64> {
 }
 
 /// The refusals of a map with a fault.
-const OF_MAP: &[u64] = &[10, 11, 12, 14, 43];
+const OF_MAP: &[u64] = &[10, 11, 12, 14, 18, 43];
 
 /// The refusals of a lookup in a map without fault.
 const OF_ADDRESS: &[u64] = &[NOT_CANONICAL, 41];
@@ -72,13 +74,15 @@ const MOST_MAP_BYTES: usize = 64;
 const GUARD: usize = 64;
 
 fn main() -> ExitCode {
-    arguments::run("maps", 50_000, MAP_SLIPS, |arguments| {
+    let slips = [MAP_SLIPS, FORM_SLIPS].concat();
+    arguments::run("maps", 50_000, &slips, |arguments| {
         let mut comparison = Comparison::new(arguments.slip);
         each_short_map(&mut |map| comparison.compare_short(map));
         let mut compare =
             |files: &CaseFiles, question: &Question| comparison.compare(files, question);
         each_question(arguments.seed, arguments.cases, &mut compare);
         each_question_about_runs(arguments.seed, &mut compare);
+        each_question_about_forms(arguments.seed, &mut compare);
         report(&comparison)
     })
 }
@@ -90,6 +94,8 @@ struct Comparison {
     maps: Tally,
     codes: Tally,
     codes_by_runs: ByRuns,
+    maps_by_forms: FormTimes,
+    lookups_by_forms: FormTimes,
     lookups: Tally,
     other_lookups: Tally,
     short_lookups: Tally,
@@ -106,6 +112,8 @@ impl Comparison {
             maps: Tally::new("map call", map_numbers()),
             codes: Tally::new("maps with code", EXTENT_CODES.to_vec()),
             codes_by_runs: ByRuns::new("maps with code", EXTENT_CODES.to_vec()),
+            maps_by_forms: FormTimes::new("map call", &SHEET),
+            lookups_by_forms: FormTimes::new("other maps", &MAP),
             lookups: Tally::new("lookup", lookup_numbers()),
             other_lookups: Tally::new("other maps", lookup_numbers()),
             short_lookups: Tally::new("short maps", lookup_numbers()),
@@ -126,8 +134,10 @@ impl Comparison {
             }
         }
         for other in &question.others {
-            let (number, difference) = look_up_in(&other.bytes, other.address, self.slip);
-            self.other_lookups.count(number);
+            let (found, difference) = look_up_in(&other.bytes, other.address, self.slip);
+            self.other_lookups.count(found.number);
+            self.lookups_by_forms
+                .count(&other.bytes, found.number, found.offset);
             differences.extend(difference);
         }
         if !differences.is_empty() {
@@ -139,8 +149,8 @@ impl Comparison {
 
     /// Looks up an address in the second of a few pages.
     fn compare_short(&mut self, map: &[u8]) {
-        let (number, difference) = look_up_in(map, 0x1ABC, self.slip);
-        self.short_lookups.count(number);
+        let (found, difference) = look_up_in(map, 0x1ABC, self.slip);
+        self.short_lookups.count(found.number);
         if let Some(text) = difference {
             self.differing += 1;
             show(&mut self.shown, || format!("short map{}", text));
@@ -172,6 +182,8 @@ impl Comparison {
         );
         let ours = map(files, start, pages, &mut our_buffer[..room], self.slip);
         self.maps.count(ours.number);
+        self.maps_by_forms
+            .count(files.sheet, ours.number, ours.length);
         let pair = [[theirs.number, theirs.length], [ours.number, ours.length]];
         if pair[0] != pair[1] {
             differences.push(pair_text("map (number, length)", pair));
@@ -223,8 +235,8 @@ impl Comparison {
     }
 }
 
-/// The second reader's number for an address in a map, and the difference if there is one.
-fn look_up_in(bytes: &[u8], address: u64, slip: Slip) -> (u64, Option<String>) {
+/// The second reader's answer for an address in a map, and the difference if there is one.
+fn look_up_in(bytes: &[u8], address: u64, slip: Slip) -> (Found, Option<String>) {
     let theirs = exports_map::lookup(bytes, address);
     let ours = lookup(bytes, address, slip);
     let pair = [[theirs.number, theirs.offset], [ours.number, ours.offset]];
@@ -232,7 +244,7 @@ fn look_up_in(bytes: &[u8], address: u64, slip: Slip) -> (u64, Option<String>) {
         let what = format!("lookup of 0x{:016X} in [{}]", address, map_text(bytes));
         pair_text(&what, pair)
     });
-    (ours.number, difference)
+    (ours, difference)
 }
 
 /// Keeps a differing case for printing, while there is room.
@@ -298,6 +310,8 @@ fn report(comparison: &Comparison) -> bool {
     ];
     print_table(&tallies);
     comparison.codes_by_runs.print();
+    comparison.maps_by_forms.print();
+    comparison.lookups_by_forms.print();
     comparison
         .shown
         .iter()
@@ -309,12 +323,15 @@ fn report(comparison: &Comparison) -> bool {
     reasons.extend(comparison.maps.reasons(&map_numbers()));
     reasons.extend(comparison.codes.reasons(EXTENT_CODES));
     reasons.extend(comparison.codes_by_runs.reasons(&[1, 23]));
+    reasons.extend(comparison.maps_by_forms.reasons());
+    reasons.extend(comparison.lookups_by_forms.reasons());
     reasons.extend(comparison.lookups.reasons(EXTENT_CODES));
     reasons.extend(comparison.lookups.reasons(OF_ADDRESS));
     reasons.extend(comparison.other_lookups.reasons(&lookup_numbers()));
     judge_stated("P2", &P2, &p2_files(), &mut reasons);
     judge_stated("order 5", &STORE, &store_files(), &mut reasons);
     judge_rules_before(&mut reasons);
+    judge_bad_forms(&mut reasons);
     reasons.iter().for_each(|reason| println!("{}", reason));
     if reasons.is_empty() {
         println!("maps: {} cases agree", with_commas(comparison.cases));
@@ -387,4 +404,27 @@ fn judge_rules_before(reasons: &mut Vec<String>) {
     let found = lookup(STORE_BEFORE, 0xB1_2ABC, Slip::None);
     let taken = [found.number, found.offset] == [2, 0x3ABC];
     judge(taken, "a map made by them is not read now");
+}
+
+/// Both readers against sheets and maps that are refused as stated.
+fn judge_bad_forms(reasons: &mut Vec<String>) {
+    for stated in &STATED_SHEETS {
+        let files = Files {
+            sheet: stated.0,
+            image: &[],
+            pagefile: &[],
+        };
+        let theirs = exports_map::map(files.sheet, &[], &[], 0, 1, &mut []);
+        let ours = map(files, 0, 1, &mut [], Slip::None);
+        let mut judge = |whose, answer| bad_forms::judge_stated(whose, stated, answer, reasons);
+        judge("exported map call", [theirs.number, theirs.length, 0]);
+        judge("second map call", [ours.number, ours.length, 0]);
+    }
+    for stated in &STATED_MAPS {
+        let theirs = exports_map::lookup(stated.0, 0xB1_0000);
+        let ours = lookup(stated.0, 0xB1_0000, Slip::None);
+        let mut judge = |whose, answer| bad_forms::judge_stated(whose, stated, answer, reasons);
+        judge("exported lookup", [theirs.number, theirs.offset, 0]);
+        judge("second lookup", [ours.number, ours.offset, 0]);
+    }
 }

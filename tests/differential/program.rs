@@ -282,16 +282,15 @@ fn good_case() -> (Case, u64) {
     (tables.case, USER + page + 0x123)
 }
 
-/// A bad sheet has its number for each address, before the address is looked at.
+/// A bad sheet has its number for each address, before the address is looked at, and for 11 and 18 the position too.
 #[rustfmt::skip]
 fn bad_sheets(runs: &mut Runs) -> io::Result<()> {
     let (case, found) = good_case();
     let sheet = case.sheet();
     let short_image = &case.image[4096..];
     let cut_pagefile = &case.pagefile[1..];
-    let sheets: [(Vec<u8>, &[u8], &[u8], u64, &str); 9] = [
+    let sheets: [(Vec<u8>, &[u8], &[u8], u64, &str); 8] = [
         (sheet[..5].to_vec(), &case.image, &case.pagefile, 10, "the last length is missing"),
-        (vec![0x80, 0x00], &case.image, &case.pagefile, 11, "P10: not the shortest form"),
         (sheet_of(&[2, 0x100, 1, 0x100, 12]), &case.image, &case.pagefile, 12, "edition 2"),
         (sheet_of(&[1, 0x100, 1001]), &case.image, &case.pagefile, 12, "1,001 runs"),
         (sheet_of(&[1, 0x100, 1, 0x100, 0]), &case.image, &case.pagefile, 13, "length 0"),
@@ -304,8 +303,33 @@ fn bad_sheets(runs: &mut Runs) -> io::Result<()> {
         runs.write_files(&sheet, image, pagefile)?;
         runs.same_answer(what, &[found, P4, 0], [number, 0, 0])?;
     }
+    for (sheet, number, position, what) in BAD_NUMBERS {
+        runs.write_files(sheet, &case.image, &case.pagefile)?;
+        runs.same_answer(what, &[found, P4, 0], [number, position, 0])?;
+    }
     Ok(())
 }
+
+/// Sheets with a number at fault (02, order 9): the number that is printed, and the offset.
+#[rustfmt::skip]
+const BAD_NUMBERS: [(&[u8], u64, u64, &str); 16] = [
+    (&[0x80, 0x00], 18, 0, "P10: not the shortest form"),
+    (&[0x81, 0x80, 0x80, 0x80, 0x80, 0x80, 0x00], 11, 0, "the edition in seven groups"),
+    (&[0x01, 0x80, 0x82, 0x00, 0x01, 0x00, 0x0C], 18, 1, "the directory page with a needless group"),
+    (&[0x01, 0x80, 0x80, 0x80, 0x80, 0x80, 0x80], 11, 1, "the directory page, ending with the sixth group"),
+    (&[0x01, 0x80, 0x02, 0x81, 0x80, 0x80, 0x80, 0x80, 0x00], 18, 3, "the run count in six groups"),
+    (&[0x01, 0x80, 0x02, 0xFF, 0xFF, 0xFF, 0xFF, 0xFF, 0xFF], 11, 3, "the run count over six groups"),
+    (&[0x01, 0x80, 0x02, 0x01, 0x80, 0x00, 0x0C], 18, 4, "the first gap with a needless group"),
+    (&[0x01, 0x80, 0x02, 0x01, 0x80, 0x80, 0x80, 0x80, 0x80, 0x80, 0x01], 11, 4, "the first gap over six groups"),
+    (&[0x01, 0x80, 0x02, 0x01, 0x80, 0x02, 0x8C, 0x00], 18, 6, "the first length with a needless group"),
+    (&[0x01, 0x80, 0x02, 0x01, 0x80, 0x02, 0x8C, 0x80, 0x80, 0x80, 0x80, 0x80, 0x00], 11, 6, "the first length over six groups"),
+    (&[0x01, 0x00, 0x02, 0x00, 0x01, 0x81, 0x00], 18, 5, "a later gap with a needless group"),
+    (&[0x01, 0x00, 0x02, 0x00, 0x01, 0x81, 0x80, 0x80, 0x80, 0x80, 0x80], 11, 5, "a later gap over six groups"),
+    (&[0x01, 0x80, 0x80, 0x80, 0x80, 0x80], 10, 0, "five groups, then the end: no position"),
+    (&[0x01, 0x00, 0x01, 0x00, 0x80, 0x80, 0x80, 0x80, 0x80, 0x02], 12, 0, "2^36 in six groups: no position"),
+    (&[0x02, 0x80, 0x00], 12, 0, "the edition is judged before a later number"),
+    (&[0x01, 0x00, 0x02, 0x00, 0x00, 0x80, 0x00], 13, 0, "the first run is judged before a later number"),
+];
 
 /// 65,536 bytes together are read, one more is not. No good sheet comes out at 65,536: a filler makes it bad.
 fn limits(runs: &mut Runs) -> io::Result<()> {

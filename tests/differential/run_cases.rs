@@ -1,6 +1,7 @@
 //! Sheets, file lengths and buffers on which two readers of a case's runs are compared.
 
-use crate::common::groups::{in_groups, sheet_of, shortest};
+use crate::common::bad_forms::SHEET;
+use crate::common::groups::{sheet_of, shortest};
 use crate::common::random::Xorshift;
 use crate::second::number::NUMBER_LIMIT;
 use crate::second::runs::NUMBERS_A_RUN;
@@ -35,7 +36,7 @@ fn question(random: &mut Xorshift) -> Question {
     let runs = (fields.len() - FIELDS_BEFORE_RUNS) / 2;
     let sheet = match random.below(12) {
         0 => cut_short(&fields, random),
-        1 => with_form(&fields, &malformed(random), random),
+        1 => SHEET.with_bad_form(&fields, random),
         2 => with_form(
             &fields,
             &shortest(NUMBER_LIMIT + random.up_to_bits(40)),
@@ -88,16 +89,6 @@ fn cut_short(fields: &[u64], random: &mut Xorshift) -> Vec<u8> {
     let mut sheet = sheet_of(fields);
     sheet.truncate(random.below(sheet.len() as u64) as usize);
     sheet
-}
-
-/// A number that is not in its shortest form, or has a seventh group.
-fn malformed(random: &mut Xorshift) -> Vec<u8> {
-    let value = random.up_to_bits(28);
-    let enough = shortest(value).len() as u32;
-    in_groups(
-        value,
-        enough + 1 + random.below(u64::from(7 - enough)) as u32,
-    )
 }
 
 /// The sheet with a form in the place of one of its fields.

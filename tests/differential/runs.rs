@@ -3,6 +3,7 @@
 #[path = "../common"]
 mod common {
     pub mod arguments;
+    pub mod bad_forms;
     pub mod codes;
     pub mod groups;
     pub mod print;
@@ -25,13 +26,14 @@ mod second {
 }
 
 use common::arguments;
+use common::bad_forms::{judge_stated, FormTimes, SHEET, STATED_SHEETS};
 use common::codes::CASE_REFUSALS;
 use common::print::{hex, with_commas};
 use common::tally::{print_table, Tally};
 use run_cases::{each_question, Question};
 use second::runs::{case_runs, image_length, NUMBERS_A_RUN};
 use second::sheet::read_sheet;
-use second::slip::{Slip, CASE_SLIPS};
+use second::slip::{Slip, CASE_SLIPS, FORM_SLIPS};
 use std::process::ExitCode;
 
 /// Every number that the call on the runs can hand back.
@@ -40,7 +42,7 @@ fn case_numbers() -> Vec<u64> {
 }
 
 /// Every number that the call on the image's length can hand back: the lengths of the files are not judged.
-const LENGTH_NUMBERS: &[u64] = &[0, 10, 11, 12, 13, 14];
+const LENGTH_NUMBERS: &[u64] = &[0, 10, 11, 12, 13, 14, 18];
 
 /// Of cases that the sheet's check accepts, how the buffer stands to what the runs take.
 const ROOMS: &[u64] = &[TOO_SHORT, ONE_SHORT, EXACT, LONGER];
@@ -69,7 +71,8 @@ const MOST_SHOWN: usize = 5;
 const GUARD: usize = 8;
 
 fn main() -> ExitCode {
-    arguments::run("runs", 100_000, CASE_SLIPS, |arguments| {
+    let slips = [CASE_SLIPS, FORM_SLIPS].concat();
+    arguments::run("runs", 100_000, &slips, |arguments| {
         let mut comparison = Comparison::new(arguments.slip);
         each_question(arguments.seed, arguments.cases, &mut |question| {
             comparison.compare(question)
@@ -84,6 +87,8 @@ struct Comparison {
     cases: u64,
     numbers: Tally,
     lengths: Tally,
+    numbers_by_forms: FormTimes,
+    lengths_by_forms: FormTimes,
     rooms: Tally,
     run_counts: Tally,
     differing: u64,
@@ -98,6 +103,8 @@ impl Comparison {
             cases: 0,
             numbers: Tally::new("case", case_numbers()),
             lengths: Tally::new("image length", LENGTH_NUMBERS.to_vec()),
+            numbers_by_forms: FormTimes::new("case", &SHEET),
+            lengths_by_forms: FormTimes::new("image length", &SHEET),
             rooms: Tally::new("room", ROOMS.to_vec()),
             run_counts: Tally::new("runs told", RUN_COUNTS.to_vec()),
             differing: 0,
@@ -156,6 +163,7 @@ impl Comparison {
 
     fn count(&mut self, question: &Question, [number, _, length]: [u64; 3]) {
         self.numbers.count(number);
+        self.numbers_by_forms.count(&question.sheet, number, length);
         if number == 0 {
             self.run_counts.count(match length {
                 2..=32 => 2,
@@ -164,8 +172,8 @@ impl Comparison {
             });
         }
         if number == 0 || number == 53 {
-            let wanted =
-                read_sheet(&question.sheet).map_or(0, |case| NUMBERS_A_RUN * case.runs.len());
+            let wanted = read_sheet(&question.sheet, Slip::None)
+                .map_or(0, |case| NUMBERS_A_RUN * case.runs.len());
             self.rooms
                 .count(match question.room as i64 - wanted as i64 {
                     0 => EXACT,
@@ -180,6 +188,7 @@ impl Comparison {
         let theirs = exports_runs::image_length(sheet);
         let ours = image_length(sheet, self.slip);
         self.lengths.count(ours.number);
+        self.lengths_by_forms.count(sheet, ours.number, ours.length);
         let theirs = [theirs.number, theirs.length];
         let ours = [ours.number, ours.length];
         (theirs != ours).then(|| {
@@ -211,6 +220,8 @@ fn case_text(case: u64, question: &Question) -> String {
 fn report(comparison: &Comparison) -> bool {
     print_table(&[&comparison.numbers, &comparison.lengths]);
     print_table(&[&comparison.rooms, &comparison.run_counts]);
+    comparison.numbers_by_forms.print();
+    comparison.lengths_by_forms.print();
     comparison
         .shown
         .iter()
@@ -223,7 +234,10 @@ fn report(comparison: &Comparison) -> bool {
     reasons.extend(comparison.lengths.reasons(LENGTH_NUMBERS));
     reasons.extend(comparison.rooms.reasons(ROOMS));
     reasons.extend(comparison.run_counts.reasons(RUN_COUNTS));
+    reasons.extend(comparison.numbers_by_forms.reasons());
+    reasons.extend(comparison.lengths_by_forms.reasons());
     judge_p1(&mut reasons);
+    judge_stated_sheets(&mut reasons);
     reasons.iter().for_each(|reason| println!("{}", reason));
     if reasons.is_empty() {
         println!("runs: {} cases agree", with_commas(comparison.cases));
@@ -246,5 +260,24 @@ fn judge_p1(reasons: &mut Vec<String>) {
     let lengths = [asked.length, image_length(sheet, Slip::None).length];
     if answers != [[0, directory, 2]; 2] || buffers != [numbers; 2] || lengths != [length; 2] {
         reasons.push(format!("P1: {:?} {:?} {:?}", answers, buffers, lengths));
+    }
+}
+
+/// Both readers against sheets that are refused as stated.
+fn judge_stated_sheets(reasons: &mut Vec<String>) {
+    for stated in &STATED_SHEETS {
+        let sheet = stated.0;
+        let mut judge = |whose, answer| judge_stated(whose, stated, answer, reasons);
+        let theirs = exports_runs::case_runs(sheet, 0, 0, &mut []);
+        let ours = case_runs(sheet, 0, 0, &mut [], Slip::None);
+        judge(
+            "exported case",
+            [theirs.number, theirs.length, theirs.directory],
+        );
+        judge("second case", [ours.number, ours.length, ours.directory]);
+        let theirs = exports_runs::image_length(sheet);
+        let ours = image_length(sheet, Slip::None);
+        judge("exported image length", [theirs.number, theirs.length, 0]);
+        judge("second image length", [ours.number, ours.length, 0]);
     }
 }

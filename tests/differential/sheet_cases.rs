@@ -1,5 +1,6 @@
 //! The sheets and file lengths on which two sheet readers are compared.
 
+use crate::common::bad_forms::STATED_SHEETS;
 use crate::common::groups::{in_groups, sheet_of, shortest};
 use crate::common::random::Xorshift;
 use crate::second::number::NUMBER_LIMIT;
@@ -46,6 +47,9 @@ const PLAIN_SHEETS: [&[u64]; 3] = [
 /// Hands every record to `take`, the same ones in the same order at each call.
 pub fn each_record(longer: bool, take: &mut dyn FnMut(&Record)) {
     let mut records = Records { take, made: 0 };
+    for (sheet, ..) in STATED_SHEETS {
+        records.add_with_all_lengths(sheet);
+    }
     all_short_sheets(&mut records);
     sheets_of_chosen_bytes(&mut records, if longer { 7 } else { 6 });
     forms_in_every_field(&mut records);

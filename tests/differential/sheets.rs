@@ -2,6 +2,7 @@
 
 #[path = "../common"]
 mod common {
+    pub mod bad_forms;
     pub mod codes;
     pub mod groups;
     pub mod print;
@@ -18,12 +19,13 @@ mod second {
 }
 mod sheet_cases;
 
-use common::codes::CASE_REFUSALS;
+use common::bad_forms::{FormTimes, SHEET, STATED_SHEETS};
+use common::codes::{BAD_FORMS, CASE_REFUSALS};
 use common::print::{hex, with_commas};
 use common::tally::{print_table, Tally};
-use second::number::Refusal;
+use second::number::Fault;
 use second::sheet::{check_sheet, Case};
-use second::slip::{self, Slip, SHEET_SLIPS};
+use second::slip::{self, Slip, FORM_SLIPS, SHEET_SLIPS};
 use sheet_cases::{each_record, Record, ACCEPTED_RUN_COUNTS};
 use std::io::{self, BufRead, BufReader, BufWriter, Write};
 use std::process::{ChildStdin, Command, ExitCode, ExitStatus, Stdio};
@@ -42,17 +44,19 @@ const MOST_SHOWN: usize = 5;
 /// How much of a differing sheet or line is printed.
 const MOST_BYTES_SHOWN: usize = 1000;
 
-/// Answers that the paper itself states: sheet, image length, line.
-const STATED: [(&[u8], u64, &str); 2] = [
-    (
-        &[
-            0x01, 0x87, 0x03, 0x02, 0x01, 0x9E, 0x01, 0x61, 0xF0, 0xFD, 0x0F,
-        ],
-        0x3FF8E000,
-        "0 391 2 1 158 256 261872\n",
-    ),
-    (&[0x80, 0x00], 0, "11\n"),
-];
+/// P1 of the paper: sheet, image length, line.
+const P1: (&[u8], u64, &str) = (
+    &[
+        0x01, 0x87, 0x03, 0x02, 0x01, 0x9E, 0x01, 0x61, 0xF0, 0xFD, 0x0F,
+    ],
+    0x3FF8E000,
+    "0 391 2 1 158 256 261872\n",
+);
+
+/// The faults of the second reader that are tried here.
+fn slips() -> Vec<Slip> {
+    [SHEET_SLIPS, FORM_SLIPS].concat()
+}
 
 struct Arguments {
     program: Option<String>,
@@ -67,7 +71,7 @@ fn main() -> ExitCode {
         Err(why) => return wrong_use(&why),
     };
     if arguments.list_slips {
-        SHEET_SLIPS.iter().for_each(|slip| println!("{:?}", slip));
+        slips().iter().for_each(|slip| println!("{:?}", slip));
         return ExitCode::SUCCESS;
     }
     let program = match &arguments.program {
@@ -99,8 +103,7 @@ fn read_arguments(mut words: impl Iterator<Item = String>) -> Result<Arguments, 
             "--list-slips" => arguments.list_slips = true,
             "--slip" => {
                 let name = words.next().ok_or("--slip needs a name")?;
-                arguments.slip =
-                    slip::named(SHEET_SLIPS, &name).ok_or(format!("no slip {}", name))?;
+                arguments.slip = slip::named(&slips(), &name).ok_or(format!("no slip {}", name))?;
             }
             _ if word.starts_with("--") || arguments.program.is_some() => {
                 return Err(format!("unexpected {}", word));
@@ -115,6 +118,7 @@ fn read_arguments(mut words: impl Iterator<Item = String>) -> Result<Arguments, 
 struct Comparison {
     cases: u64,
     answers: Tally,
+    bad_forms: FormTimes,
     /// The accepted sheets of certain run counts.
     runs: Tally,
     differing: u64,
@@ -161,6 +165,7 @@ fn compare_lines(mut output: impl BufRead, slip: Slip, longer: bool) -> io::Resu
     let mut comparison = Comparison {
         cases: 0,
         answers: Tally::new("answer", answers()),
+        bad_forms: FormTimes::new("sheet", &SHEET),
         runs: Tally::new("accepted, runs", ACCEPTED_RUN_COUNTS.to_vec()),
         differing: 0,
         shown: Vec::new(),
@@ -192,8 +197,11 @@ fn compare_line(comparison: &mut Comparison, record: &Record, line: &[u8], slip:
         record.pagefile_length,
         slip,
     );
-    let number = answer.as_ref().err().copied().unwrap_or(0);
-    comparison.answers.count(u64::from(number));
+    let fault = answer.as_ref().err().copied().unwrap_or(0.into());
+    comparison.answers.count(fault.number());
+    comparison
+        .bad_forms
+        .count(record.sheet, fault.number(), fault.position);
     if let Ok(case) = &answer {
         let count = case.runs.len() as u64;
         if ACCEPTED_RUN_COUNTS.contains(&count) {
@@ -214,9 +222,13 @@ fn compare_line(comparison: &mut Comparison, record: &Record, line: &[u8], slip:
     }
 }
 
-fn line_of(answer: &Result<Case, Refusal>) -> String {
+/// The line of a sheet; a refusal has its position if it is one of those that tell it.
+fn line_of(answer: &Result<Case, Fault>) -> String {
     match answer {
-        Err(refusal) => format!("{}\n", refusal),
+        Err(fault) if BAD_FORMS.contains(&fault.number()) || fault.position != 0 => {
+            format!("{} {}\n", fault.refusal, fault.position)
+        }
+        Err(fault) => format!("{}\n", fault.refusal),
         Ok(case) => {
             let mut line = format!("0 {} {}", case.directory_page, case.runs.len());
             for run in &case.runs {
@@ -245,6 +257,7 @@ fn differing_case(record: &Record, line: &[u8], wanted: &str) -> String {
 fn report(comparison: &Comparison, status: ExitStatus) -> bool {
     print_table(&[&comparison.answers]);
     print_table(&[&comparison.runs]);
+    comparison.bad_forms.print();
     comparison
         .shown
         .iter()
@@ -277,7 +290,8 @@ fn reasons_to_fail(comparison: &Comparison, status: ExitStatus) -> Vec<String> {
     }
     reasons.extend(comparison.answers.reasons(&answers()));
     reasons.extend(comparison.runs.reasons(ACCEPTED_RUN_COUNTS));
-    for (sheet, image_length, line) in STATED {
+    reasons.extend(comparison.bad_forms.reasons());
+    for (sheet, image_length, line) in stated() {
         let ours = line_of(&check_sheet(sheet, image_length, 0, Slip::None));
         if ours != line {
             reasons.push(format!(
@@ -288,4 +302,18 @@ fn reasons_to_fail(comparison: &Comparison, status: ExitStatus) -> Vec<String> {
         }
     }
     reasons
+}
+
+/// Answers that the papers themselves state: sheet, image length, line.
+fn stated() -> Vec<(&'static [u8], u64, String)> {
+    let (sheet, image_length, line) = P1;
+    let refused = STATED_SHEETS.iter().map(|(sheet, number, position)| {
+        let line = match BAD_FORMS.contains(number) {
+            true => format!("{} {}\n", number, position),
+            false => format!("{}\n", number),
+        };
+        (*sheet, 0, line)
+    });
+    let p1 = (sheet, image_length, line.to_string());
+    [p1].into_iter().chain(refused).collect()
 }

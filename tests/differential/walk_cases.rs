@@ -1,5 +1,6 @@
 //! The cases on which two walks are compared, and those that the papers state.
 
+use crate::common::bad_forms::{BAD_FORM_CASES, SHEET};
 use crate::common::case_files::{damage_files, damage_tables, other_sheet, CaseFiles};
 use crate::common::groups::sheet_of;
 use crate::common::many_runs::each_with_many_runs;
@@ -50,6 +51,33 @@ pub fn each_question_about_runs(seed: u64, take: &mut dyn FnMut(&CaseFiles, &Que
         files.sheet = good_sheet;
         damage_files(&mut files, &mut memory.random);
         take(&files, &question_in(pages[0], &mut memory.random));
+        ask_bad_forms(memory, &mut files, &pages, take);
+    });
+}
+
+/// Hands questions to `take` with a bad form in each kind of field of a sheet.
+pub fn each_question_about_forms(seed: u64, take: &mut dyn FnMut(&CaseFiles, &Question)) {
+    let mut random = Xorshift::seeded(seed.rotate_left(32));
+    for _ in 0..BAD_FORM_CASES {
+        let mut memory = Memory::new(random);
+        let pages = lay_pages(&mut memory);
+        let mut files = CaseFiles::taken_from(&mut memory);
+        ask_bad_forms(&mut memory, &mut files, &pages, take);
+        random = memory.random;
+    }
+}
+
+fn ask_bad_forms(
+    memory: &mut Memory,
+    files: &mut CaseFiles,
+    pages: &[u64],
+    take: &mut dyn FnMut(&CaseFiles, &Question),
+) {
+    let fields = memory.sheet_fields();
+    SHEET.each_bad_form(&fields, &mut memory.random, &mut |sheet, random| {
+        files.sheet = sheet;
+        let page = pages[random.below(pages.len() as u64) as usize];
+        take(files, &question_about(page, random));
     });
 }
 
@@ -120,11 +148,7 @@ fn lay_pages(memory: &mut Memory) -> Vec<u64> {
 /// Questions about the case as laid, then with damaged tables, then with a damaged sheet.
 fn ask_about(memory: &mut Memory, pages: &[u64], questions: &mut Questions) {
     let fields = memory.sheet_fields();
-    let mut files = CaseFiles {
-        sheet: sheet_of(&fields),
-        image: std::mem::take(&mut memory.image),
-        pagefile: std::mem::take(&mut memory.pagefile),
-    };
+    let mut files = CaseFiles::taken_from(memory);
     for page in pages {
         let question = question_about(*page, &mut memory.random);
         questions.ask(&files, &question);

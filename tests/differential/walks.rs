@@ -3,6 +3,7 @@
 #[path = "../common"]
 mod common {
     pub mod arguments;
+    pub mod bad_forms;
     pub mod case_files;
     pub mod codes;
     pub mod groups;
@@ -28,6 +29,7 @@ mod second {
 mod walk_cases;
 
 use common::arguments;
+use common::bad_forms::{self, FormTimes, SHEET, STATED_SHEETS};
 use common::case_files::CaseFiles;
 use common::codes::{
     address_numbers, CASE_REFUSALS, NOT_CANONICAL, PAGE_IN_STORE, PAGE_REFUSALS, PLACES,
@@ -37,10 +39,13 @@ use common::print::{hex, with_commas};
 use common::tally::{print_table, Tally, LEAST_TIMES};
 use run_edges::{each_edge, Edge, EdgeTimes};
 use second::bytes;
-use second::slip::{Slip, WALK_SLIPS};
+use second::slip::{Slip, FORM_SLIPS, WALK_SLIPS};
 use second::walk::{self, word_at, Files, Place};
 use std::process::ExitCode;
-use walk_cases::{each_question, each_question_about_runs, Question, Stated, MOST_ROOM, STATED};
+use walk_cases::{
+    each_question, each_question_about_forms, each_question_about_runs, Question, Stated,
+    MOST_ROOM, STATED,
+};
 
 /// Every number that a read can hand back.
 fn read_numbers() -> Vec<u64> {
@@ -63,13 +68,15 @@ const MOST_SHOWN: usize = 5;
 const GUARD: usize = 64;
 
 fn main() -> ExitCode {
-    arguments::run("walks", 200_000, WALK_SLIPS, |arguments| {
+    let slips = [WALK_SLIPS, FORM_SLIPS].concat();
+    arguments::run("walks", 200_000, &slips, |arguments| {
         let mut comparison = Comparison::new(arguments.slip);
         let mut compare = |files: &CaseFiles, question: &Question| {
             comparison.compare(files, question);
         };
         each_question(arguments.seed, arguments.cases, &mut compare);
         each_question_about_runs(arguments.seed, &mut compare);
+        each_question_about_forms(arguments.seed, &mut compare);
         let times = arguments.cases / CASES_AN_EDGE;
         each_edge(arguments.seed, times, &mut |files, edge| {
             comparison.meet(files, edge)
@@ -89,6 +96,8 @@ struct Comparison {
     read: Tally,
     resolved_by_runs: ByRuns,
     read_by_runs: ByRuns,
+    resolved_by_forms: FormTimes,
+    read_by_forms: FormTimes,
     /// By the prototype entries followed: all answers of accepted cases, those found, those in the store.
     chains: [[u64; 3]; MOST_PROTOTYPES + 1],
     most_entries: u64,
@@ -108,6 +117,8 @@ impl Comparison {
             read: Tally::new("read", read_numbers()),
             resolved_by_runs: ByRuns::new("resolve", address_numbers()),
             read_by_runs: ByRuns::new("read", read_numbers()),
+            resolved_by_forms: FormTimes::new("resolve", &SHEET),
+            read_by_forms: FormTimes::new("read", &SHEET),
             chains: [[0; 3]; MOST_PROTOTYPES + 1],
             most_entries: 0,
             edges: EdgeTimes::new(),
@@ -163,6 +174,8 @@ impl Comparison {
         let ours = walk::resolve(files, address, self.slip);
         self.resolved.count(ours.number);
         self.resolved_by_runs.count(files.sheet, ours.number);
+        self.resolved_by_forms
+            .count(files.sheet, ours.number, ours.offset);
         self.most_entries = self.most_entries.max(ours.entries);
         let chain = ours.prototypes as usize;
         if !CASE_REFUSALS.contains(&ours.number) && chain <= MOST_PROTOTYPES {
@@ -220,6 +233,8 @@ impl Comparison {
         let ours = bytes::read(files, start, n, &mut our_buffer[..room], slip);
         self.read.count(ours.number);
         self.read_by_runs.count(files.sheet, ours.number);
+        self.read_by_forms
+            .count(files.sheet, ours.number, ours.length);
         [
             [theirs.number, theirs.length, theirs.zeros],
             [ours.number, ours.length, ours.zeros],
@@ -290,6 +305,8 @@ fn report(comparison: &Comparison, least_edge_times: u64) -> bool {
     print_table(&[&comparison.resolved, &comparison.read]);
     comparison.resolved_by_runs.print();
     comparison.read_by_runs.print();
+    comparison.resolved_by_forms.print();
+    comparison.read_by_forms.print();
     println!(
         "{:>6} {:>12} {:>12} {:>12}",
         "depth", "answers", "found", "in store"
@@ -321,6 +338,8 @@ fn reasons_to_fail(comparison: &Comparison, least_edge_times: u64) -> Vec<String
     reasons.extend(comparison.read.reasons(&read_numbers()));
     reasons.extend(comparison.resolved_by_runs.reasons(&[1, 23]));
     reasons.extend(comparison.read_by_runs.reasons(&[0, 23]));
+    reasons.extend(comparison.resolved_by_forms.reasons());
+    reasons.extend(comparison.read_by_forms.reasons());
     for (chain, [_, found, stored]) in comparison.chains.iter().enumerate() {
         for (what, times) in [("found", found), ("in store", stored)] {
             if *times < LEAST_TIMES {
@@ -338,6 +357,7 @@ fn reasons_to_fail(comparison: &Comparison, least_edge_times: u64) -> Vec<String
     STATED
         .iter()
         .for_each(|stated| judge_stated(stated, &mut reasons));
+    judge_stated_sheets(&mut reasons);
     reasons
 }
 
@@ -358,6 +378,37 @@ fn judge_stated(stated: &Stated, reasons: &mut Vec<String>) {
                 "{}: {} {} instead of {}",
                 stated.what, whose, got, wanted
             ));
+        }
+    }
+}
+
+/// Both walks against sheets that are refused as stated; the page call has no place for a position.
+fn judge_stated_sheets(reasons: &mut Vec<String>) {
+    for stated in &STATED_SHEETS {
+        let sheet = stated.0;
+        let files = Files {
+            sheet,
+            image: &[],
+            pagefile: &[],
+        };
+        let mut judge = |whose, answer| bad_forms::judge_stated(whose, stated, answer, reasons);
+        let theirs = exports::resolve(sheet, &[], &[], 0);
+        let ours = walk::resolve(files, 0, Slip::None);
+        judge(
+            "exported address",
+            [theirs.number, theirs.offset, theirs.entries],
+        );
+        judge("second address", [ours.number, ours.offset, ours.entries]);
+        let theirs = exports::read(sheet, &[], &[], 0, 1, &mut [0]);
+        let ours = bytes::read(files, 0, 1, &mut [0], Slip::None);
+        judge(
+            "exported read",
+            [theirs.number, theirs.length, theirs.zeros],
+        );
+        judge("second read", [ours.number, ours.length, ours.zeros]);
+        let parts = pages(files, 0, Slip::None);
+        if parts != [[0; 3]; 2] {
+            reasons.push(format!("page: {:?} for [{}]", parts, hex(sheet)));
         }
     }
 }

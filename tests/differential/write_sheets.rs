@@ -6,6 +6,8 @@
 #[path = "../common"]
 mod common {
     pub mod arguments;
+    pub mod bad_forms;
+    pub mod codes;
     pub mod groups;
     pub mod print;
     pub mod random;
@@ -37,7 +39,7 @@ mod writer_met;
 use common::arguments;
 use common::print::{hex, with_commas};
 use common::tally::{print_table, Tally, LEAST_TIMES};
-use second::number::Refusal;
+use second::number::Fault;
 use second::runs::NUMBERS_A_RUN;
 use second::sheet::{check_sheet, Case as Read, Run};
 use second::sheet_writer::{joined_runs, sheet_bytes, write_sheet, Given, MOST_GIVEN};
@@ -99,11 +101,14 @@ fn reader_slip(slip: Slip) -> Slip {
 }
 
 /// What the export reads in a sheet.
-fn read_by_export(sheet: &[u8], image_length: u64, pagefile_length: u64) -> Result<Read, Refusal> {
+fn read_by_export(sheet: &[u8], image_length: u64, pagefile_length: u64) -> Result<Read, Fault> {
     let mut numbers = vec![0; NUMBERS_A_RUN * MOST_GIVEN];
     let read = exports_runs::case_runs(sheet, image_length, pagefile_length, &mut numbers);
     if read.number != 0 {
-        return Err(read.number as Refusal);
+        return Err(Fault {
+            refusal: read.number as u32,
+            position: read.length,
+        });
     }
     let runs = numbers.chunks(NUMBERS_A_RUN).take(read.length as usize);
     Ok(Read {
@@ -203,8 +208,8 @@ impl Comparison {
         let sheet = self.written(length);
         let by_export = read_by_export(sheet, image_length, pagefile_length);
         let by_second = check_sheet(sheet, image_length, pagefile_length, reader_slip(self.slip));
-        let fault = |read: Result<Read, Refusal>| match read {
-            Err(refusal) => Some(format!("{}", refusal)),
+        let fault = |read: Result<Read, Fault>| match read {
+            Err(fault) => Some(format!("{:?}", fault)),
             Ok(read) if read.directory_page != given.directory_page => {
                 Some(format!("directory page 0x{:X}", read.directory_page))
             }

@@ -1,7 +1,7 @@
 //! The bytes behind addresses: reading a run of them, and an address's whole page.
 
 use super::codes::{IMAGE, NOT_CANONICAL, PAGEFILE};
-use super::number::Refusal;
+use super::number::{Fault, Refusal};
 use super::slip::Slip;
 use super::walk::{Files, Place, Walk, PAGE_BYTES};
 
@@ -42,13 +42,17 @@ pub fn page(files: Files, address: u64, slip: Slip) -> Part {
         Slip::PageOfBadSheetHandedOut => files.without_rest(),
         _ => files,
     };
-    match Walk::start(files, slip).and_then(|mut walk| walk.resolve(address)) {
+    match Walk::start(files, slip).and_then(|mut walk| Ok(walk.resolve(address)?)) {
         Ok(Place::Image(offset)) => whole_page(IMAGE, offset, slip),
         Ok(Place::Pagefile(offset)) if slip == Slip::PageOfPagefileAsImage => {
             whole_page(IMAGE, offset, slip)
         }
         Ok(Place::Pagefile(offset)) => whole_page(PAGEFILE, offset, slip),
         Ok(Place::Zeros) if slip == Slip::PageOfZerosHandedOut => whole_page(IMAGE, 0, slip),
+        Err(fault) if slip == Slip::PagePositionHandedOut => Part {
+            offset: fault.position,
+            ..Part::default()
+        },
         Ok(Place::Zeros) | Err(_) => Part::default(),
     }
 }
@@ -87,7 +91,7 @@ fn whole_page(file: u64, offset: u64, slip: Slip) -> Part {
 pub fn read(files: Files, address: u64, n: u64, buffer: &mut [u8], slip: Slip) -> Bytes {
     let room = buffer.len() as u64;
     if slip == Slip::BufferBeforeSheet && n > room {
-        return refused(BUFFER_TOO_SHORT);
+        return refused(BUFFER_TOO_SHORT.into(), slip);
     }
     let judged = match slip {
         Slip::ReadOfBadSheetTaken => files.without_rest(),
@@ -95,7 +99,7 @@ pub fn read(files: Files, address: u64, n: u64, buffer: &mut [u8], slip: Slip) -
     };
     let mut walk = match Walk::start(judged, slip) {
         Ok(walk) => walk,
-        Err(refusal) => return refused(refusal),
+        Err(fault) => return refused(fault, slip),
     };
     let too_short = match slip {
         Slip::BufferUnjudged => false,
@@ -103,19 +107,22 @@ pub fn read(files: Files, address: u64, n: u64, buffer: &mut [u8], slip: Slip) -
         _ => n > room,
     };
     if too_short && slip != Slip::BufferAfterAddress {
-        return refused(BUFFER_TOO_SHORT);
+        return refused(BUFFER_TOO_SHORT.into(), slip);
     }
     let gathered = gather(&mut walk, address, n, slip);
     if too_short && gathered.refusal.is_none() {
-        return refused(BUFFER_TOO_SHORT);
+        return refused(BUFFER_TOO_SHORT.into(), slip);
     }
     hand_over(files, &gathered, buffer, slip)
 }
 
-fn refused(refusal: Refusal) -> Bytes {
+fn refused(fault: Fault, slip: Slip) -> Bytes {
     Bytes {
-        number: u64::from(refusal),
-        length: 0,
+        number: fault.number(),
+        length: match slip {
+            Slip::ReadPositionDropped => 0,
+            _ => fault.position,
+        },
         zeros: 0,
     }
 }
@@ -181,7 +188,7 @@ fn hand_over(files: Files, gathered: &Gathered, buffer: &mut [u8], slip: Slip) -
                 Slip::ZerosFlagOnRefusal => zeros_flag(gathered, &[], slip),
                 _ => 0,
             },
-            ..refused(refusal)
+            ..refused(refusal.into(), slip)
         };
     }
     let written = write_pieces(files, gathered, buffer, slip);

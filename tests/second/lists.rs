@@ -1,7 +1,7 @@
 //! The processor-block search in the image, and the process list.
 
 use super::codes::{IMAGE, NOT_CANONICAL, REGION_NEEDED};
-use super::number::Refusal;
+use super::number::{Fault, Refusal};
 use super::slip::Slip;
 use super::walk::{bits, is_canonical, word_at, Files, Place, Walk, PAGE_BYTES};
 
@@ -48,14 +48,14 @@ pub struct Written {
 /// The first processor block not below an offset.
 pub fn processor_block(files: Files, from: u64, slip: Slip) -> Block {
     if slip == Slip::PastImageBeforeSheet && from >= files.image.len() as u64 {
-        return no_block(NO_BLOCK, 0);
+        return no_block(NO_BLOCK.into(), 0, slip);
     }
     let judged = match slip {
         Slip::BlockOfBadSheetTaken => files.without_rest(),
         _ => files,
     };
     match Walk::start(judged, slip) {
-        Err(refusal) => no_block(refusal, 0),
+        Err(fault) => no_block(fault, 0, slip),
         Ok(walk) => Search {
             walk,
             image: files.image,
@@ -67,10 +67,13 @@ pub fn processor_block(files: Files, from: u64, slip: Slip) -> Block {
     }
 }
 
-fn no_block(refusal: Refusal, entries: u64) -> Block {
+fn no_block(fault: Fault, entries: u64, slip: Slip) -> Block {
     Block {
-        number: u64::from(refusal),
-        offset: 0,
+        number: fault.number(),
+        offset: match slip {
+            Slip::BlockPositionDropped => 0,
+            _ => fault.position,
+        },
         entries,
     }
 }
@@ -114,7 +117,8 @@ impl Search<'_> {
             Slip::CountKeptFor55 => self.entries,
             _ => 0,
         };
-        self.found.unwrap_or(no_block(NO_BLOCK, kept))
+        self.found
+            .unwrap_or(no_block(NO_BLOCK.into(), kept, self.slip))
     }
 
     /// Looks at an offset; true if the search is over.
@@ -210,7 +214,7 @@ fn leads_back(place: Result<Place, Refusal>, offset: u64, slip: Slip) -> bool {
 /// Writes the nodes of the list at a head into the front of the buffer, or none of them.
 pub fn process_list(files: Files, head: u64, buffer: &mut [u64], slip: Slip) -> Written {
     if slip == Slip::HeadBeforeSheet && head % WORD_BYTES != 0 {
-        return hand_over(&[], Err(UNALIGNED_LINK), buffer, slip);
+        return hand_over(&[], Err(UNALIGNED_LINK.into()), buffer, slip);
     }
     let judged = match slip {
         Slip::ListOfBadSheetTaken => files.without_rest(),
@@ -218,7 +222,7 @@ pub fn process_list(files: Files, head: u64, buffer: &mut [u64], slip: Slip) -> 
     };
     let walk = match Walk::start(judged, slip) {
         Ok(walk) => walk,
-        Err(refusal) => return hand_over(&[], Err(refusal), buffer, slip),
+        Err(fault) => return hand_over(&[], Err(fault), buffer, slip),
     };
     let mut list = List {
         walk,
@@ -228,17 +232,12 @@ pub fn process_list(files: Files, head: u64, buffer: &mut [u64], slip: Slip) -> 
         slip,
         nodes: Vec::new(),
     };
-    let verdict = list.follow();
+    let verdict = list.follow().map_err(Fault::from);
     hand_over(&list.nodes, verdict, buffer, slip)
 }
 
 /// Writes the nodes and their number, or only names the refusal.
-fn hand_over(
-    nodes: &[u64],
-    verdict: Result<(), Refusal>,
-    buffer: &mut [u64],
-    slip: Slip,
-) -> Written {
+fn hand_over(nodes: &[u64], verdict: Result<(), Fault>, buffer: &mut [u64], slip: Slip) -> Written {
     // Only a slip lists more nodes than there is room for.
     let held = nodes.len().min(buffer.len());
     if verdict.is_ok() || slip == Slip::WritesBeforeRefusal {
@@ -247,16 +246,18 @@ fn hand_over(
     if verdict.is_ok() && slip == Slip::ListClearsRest {
         buffer[held..].fill(0);
     }
-    let length = match slip {
-        Slip::ListLengthOnRefusal => nodes.len(),
-        _ if verdict.is_err() => 0,
-        Slip::ListLengthOfBuffer => buffer.len(),
-        Slip::ListLengthInBytes => nodes.len() * WORD_BYTES as usize,
-        _ => nodes.len(),
+    let count = nodes.len() as u64;
+    let length = match (verdict, slip) {
+        (_, Slip::ListLengthOnRefusal) => count,
+        (Err(_), Slip::ListPositionDropped) => 0,
+        (Err(fault), _) => fault.position,
+        (Ok(()), Slip::ListLengthOfBuffer) => buffer.len() as u64,
+        (Ok(()), Slip::ListLengthInBytes) => count * WORD_BYTES,
+        (Ok(()), _) => count,
     };
     Written {
-        number: verdict.err().map_or(0, u64::from),
-        length: length as u64,
+        number: verdict.err().map_or(0, |fault| fault.number()),
+        length,
     }
 }
 

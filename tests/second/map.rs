@@ -4,7 +4,7 @@ use super::codes::{
     has_page, is_code, refuses, IMAGE, NOT_CANONICAL, PAGEFILE, PAGE_IN_STORE, UNALIGNED_PROTOTYPE,
     ZEROS,
 };
-use super::number::{append, Numbers, Refusal, NUMBER_LIMIT, OUTSIDE_LIMITS};
+use super::number::{append, Fault, Numbers, Refusal, NUMBER_LIMIT, OUTSIDE_LIMITS};
 use super::sheet::BYTES_AFTER_LAST_FIELD;
 use super::slip::Slip;
 use super::walk::{is_canonical, Files, Place, Walk, PAGE_BYTES};
@@ -66,17 +66,27 @@ enum EndFault {
 
 /// Writes the map of a range into the front of the buffer, or nothing at all.
 pub fn map(files: Files, start: u64, pages: u64, buffer: &mut [u8], slip: Slip) -> Written {
-    match map_bytes(files, start, pages, slip) {
-        Err(RANGE_WRONG) if slip == Slip::RoomBeforeRange && buffer.is_empty() => {
-            not_written(BUFFER_TOO_SHORT)
+    let fault = match map_bytes(files, start, pages, slip) {
+        Ok(bytes) => return hand_over(&bytes, buffer, slip),
+        Err(fault) => fault,
+    };
+    let refusal = match slip {
+        Slip::RoomBeforeRange if fault.refusal == RANGE_WRONG && buffer.is_empty() => {
+            BUFFER_TOO_SHORT
         }
-        Err(refusal) => not_written(refusal),
-        Ok(bytes) => hand_over(&bytes, buffer, slip),
+        _ => fault.refusal,
+    };
+    Written {
+        number: u64::from(refusal),
+        length: match slip {
+            Slip::MapCallPositionDropped => 0,
+            _ => fault.position,
+        },
     }
 }
 
 /// The bytes of the map, whether they fit or not; else the sheet's fault or 40.
-pub fn map_bytes(files: Files, start: u64, pages: u64, slip: Slip) -> Result<Vec<u8>, Refusal> {
+pub fn map_bytes(files: Files, start: u64, pages: u64, slip: Slip) -> Result<Vec<u8>, Fault> {
     let range = judge_range(start, pages, slip);
     if slip == Slip::RangeBeforeSheet {
         range?;
@@ -87,13 +97,6 @@ pub fn map_bytes(files: Files, start: u64, pages: u64, slip: Slip) -> Result<Vec
     };
     let mut walk = Walk::start(judged, slip)?;
     Ok(layout(&mut walk, start, range?, slip))
-}
-
-fn not_written(refusal: Refusal) -> Written {
-    Written {
-        number: u64::from(refusal),
-        length: 0,
-    }
 }
 
 /// The page count of an allowed range, or 40.
@@ -291,14 +294,17 @@ fn hand_over(bytes: &[u8], buffer: &mut [u8], slip: Slip) -> Written {
 
 /// Number and offset for an address in a map.
 pub fn lookup(bytes: &[u8], address: u64, slip: Slip) -> Found {
-    find(bytes, address, slip).unwrap_or_else(|refusal| Found {
-        number: u64::from(refusal),
-        offset: 0,
+    find(bytes, address, slip).unwrap_or_else(|fault| Found {
+        number: fault.number(),
+        offset: match slip {
+            Slip::LookupPositionDropped => 0,
+            _ => fault.position,
+        },
     })
 }
 
 /// The map's own faults, then 20, then 41, then what the extent says.
-fn find(bytes: &[u8], address: u64, slip: Slip) -> Result<Found, Refusal> {
+fn find(bytes: &[u8], address: u64, slip: Slip) -> Result<Found, Fault> {
     if slip == Slip::CanonicalBeforeFaults {
         judge_canonical(address, slip)?;
     }
@@ -311,8 +317,8 @@ fn find(bytes: &[u8], address: u64, slip: Slip) -> Result<Found, Refusal> {
     }
     if slip == Slip::LookupAnswersBeforeLastByte && is_canonical(address, slip) {
         let found = place.and_then(|place| answer(&map, place, address, slip));
-        if found.is_ok() {
-            return found;
+        if let Ok(found) = found {
+            return Ok(found);
         }
     }
     verdict?;
@@ -320,7 +326,7 @@ fn find(bytes: &[u8], address: u64, slip: Slip) -> Result<Found, Refusal> {
         place?;
     }
     judge_canonical(address, slip)?;
-    answer(&map, place?, address, slip)
+    Ok(answer(&map, place?, address, slip)?)
 }
 
 fn judge_canonical(address: u64, slip: Slip) -> Result<(), Refusal> {
@@ -387,7 +393,7 @@ fn found_in(extent: &Extent, page: u64, address: u64, slip: Slip) -> Found {
 }
 
 /// What an accepted map says, or its first fault.
-pub fn read_map(bytes: &[u8]) -> Result<Map, Refusal> {
+pub fn read_map(bytes: &[u8]) -> Result<Map, Fault> {
     let mut map = Map::default();
     read_fields(&mut Numbers::new(bytes, Slip::None), &mut map, Slip::None)?;
     Ok(map)
@@ -407,12 +413,19 @@ fn number_slip(slip: Slip) -> Slip {
         Slip::MapLimitOneTooHigh => Slip::LimitOneTooHigh,
         Slip::MapLimitOneTooLow => Slip::LimitOneTooLow,
         Slip::MapLimitDropped => Slip::LimitDropped,
+        Slip::MapNotShortestIs11 => Slip::NotShortestIs11,
+        Slip::MapTooLongIs18 => Slip::TooLongIs18,
+        Slip::MapBadFormsSwapped => Slip::BadFormsSwapped,
+        Slip::MapPositionOfLastGroup => Slip::PositionOfLastGroup,
+        Slip::MapPositionBehindNumber => Slip::PositionBehindNumber,
+        Slip::MapPositionFor10 => Slip::PositionFor10,
+        Slip::MapPositionFor12 => Slip::PositionFor12,
         _ => Slip::None,
     }
 }
 
 /// Fills the map from left to right, up to its first fault.
-fn read_fields(numbers: &mut Numbers, map: &mut Map, slip: Slip) -> Result<(), Refusal> {
+fn read_fields(numbers: &mut Numbers, map: &mut Map, slip: Slip) -> Result<(), Fault> {
     let edition = numbers.read()?;
     if slip != Slip::MapEditionJudgedAfterStart {
         judge_edition(edition, slip)?;
@@ -431,7 +444,7 @@ fn read_fields(numbers: &mut Numbers, map: &mut Map, slip: Slip) -> Result<(), R
     read_extents(numbers, map, slip)?;
     range?;
     if !numbers.at_end() && slip != Slip::MapTrailingTaken {
-        return Err(BYTES_AFTER_LAST_FIELD);
+        return Err(BYTES_AFTER_LAST_FIELD.into());
     }
     Ok(())
 }
@@ -470,7 +483,7 @@ fn judge_map_range(start_page: u64, pages: u64, slip: Slip) -> Result<(), Refusa
 }
 
 /// Reads extents until their lengths sum to the page count.
-fn read_extents(numbers: &mut Numbers, map: &mut Map, slip: Slip) -> Result<(), Refusal> {
+fn read_extents(numbers: &mut Numbers, map: &mut Map, slip: Slip) -> Result<(), Fault> {
     let mut verdicts = Ok(());
     let mut sum = 0;
     while sum < map.pages {
@@ -488,15 +501,15 @@ fn read_extents(numbers: &mut Numbers, map: &mut Map, slip: Slip) -> Result<(), 
         map.extents.push(extent);
         sum += extent.length;
     }
-    verdicts
+    Ok(verdicts?)
 }
 
 /// The fields of one extent; 43 here only for a code that is not listed.
-fn read_extent(numbers: &mut Numbers, room: u64, slip: Slip) -> Result<Extent, Refusal> {
+fn read_extent(numbers: &mut Numbers, room: u64, slip: Slip) -> Result<Extent, Fault> {
     let code = numbers.read()?;
     let listed = is_listed(code, slip);
     if !listed && slip != Slip::CodeJudgedWithExtent {
-        return Err(EXTENT_WRONG);
+        return Err(EXTENT_WRONG.into());
     }
     let length = numbers.read()?;
     let early = match slip {
@@ -505,7 +518,7 @@ fn read_extent(numbers: &mut Numbers, room: u64, slip: Slip) -> Result<Extent, R
         _ => !listed,
     };
     if early {
-        return Err(EXTENT_WRONG);
+        return Err(EXTENT_WRONG.into());
     }
     let first_page = match has_page(code) {
         true => numbers.read()?,

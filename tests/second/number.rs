@@ -1,16 +1,19 @@
 //! Numbers in groups of seven bits, lowest group first.
 
 use super::slip::Slip;
+use std::ops::Range;
 
 /// A refusal's number in the table "Numbers handed back".
 pub type Refusal = u32;
 
 /// The bytes end inside a number or before the last field.
 pub const ENDS_EARLY: Refusal = 10;
-/// A number has over 6 groups or is not in its shortest form.
-pub const NOT_SHORTEST: Refusal = 11;
+/// A number has over 6 groups.
+const TOO_LONG: Refusal = 11;
 /// The edition is not 1, or a number is outside its limits.
 pub const OUTSIDE_LIMITS: Refusal = 12;
+/// A number is not in its shortest form.
+const NOT_SHORTEST: Refusal = 18;
 
 /// Each number is below this, and each run ends at or below this page.
 pub const NUMBER_LIMIT: u64 = 1 << 36;
@@ -18,39 +21,102 @@ pub const NUMBER_LIMIT: u64 = 1 << 36;
 /// Set in a byte if another group follows.
 const TOP_BIT: u8 = 0x80;
 
+/// Why a sheet or map is refused.
+#[derive(Clone, Copy, PartialEq, Debug)]
+pub struct Fault {
+    pub refusal: Refusal,
+    /// For 11 and 18 the place of the number's first byte, from the start of the sheet or map; else 0.
+    pub position: u64,
+}
+
+impl Fault {
+    pub fn number(&self) -> u64 {
+        u64::from(self.refusal)
+    }
+}
+
+impl From<Refusal> for Fault {
+    fn from(refusal: Refusal) -> Self {
+        Fault {
+            refusal,
+            position: 0,
+        }
+    }
+}
+
 /// The numbers of a sheet or map, read from left to right.
 pub struct Numbers<'a> {
-    rest: &'a [u8],
+    bytes: &'a [u8],
+    /// Where the next number begins.
+    at: usize,
     slip: Slip,
 }
 
 impl<'a> Numbers<'a> {
     pub fn new(bytes: &'a [u8], slip: Slip) -> Self {
-        Numbers { rest: bytes, slip }
+        Numbers { bytes, at: 0, slip }
     }
 
-    /// The next number, or 10, 11 or 12.
-    pub fn read(&mut self) -> Result<u64, Refusal> {
+    /// The next number, or 10, 11, 12 or 18.
+    pub fn read(&mut self) -> Result<u64, Fault> {
+        let start = self.at;
         let value = self.read_unlimited()?;
-        judge_limit(value, self.slip)?;
+        judge_limit(value, self.slip)
+            .map_err(|refusal| fault(refusal, start..self.at, self.slip))?;
         Ok(value)
     }
 
-    /// The next number whatever its size, or 10 or 11.
-    pub fn read_unlimited(&mut self) -> Result<u64, Refusal> {
-        let count = group_count(self.rest, self.slip)?;
-        let (groups, rest) = self.rest.split_at(count);
+    /// The next number whatever its size, or 10, 11 or 18.
+    pub fn read_unlimited(&mut self) -> Result<u64, Fault> {
+        let start = self.at;
+        let rest = &self.bytes[start..];
+        let count = group_count(rest, self.slip).map_err(|refusal| {
+            let seen = rest.len().min(most_groups(self.slip));
+            fault(refusal, start..start + seen, self.slip)
+        })?;
+        let groups = &rest[..count];
         let value = value_of(groups, self.slip);
         if !is_shortest(groups, value, self.slip) {
-            return Err(NOT_SHORTEST);
+            return Err(fault(NOT_SHORTEST, start..start + count, self.slip));
         }
-        self.rest = rest;
+        self.at += count;
         Ok(value)
+    }
+
+    /// The place of the next number's first byte.
+    pub fn position(&self) -> u64 {
+        self.at as u64
     }
 
     /// Whether all bytes have been read.
     pub fn at_end(&self) -> bool {
-        self.rest.is_empty()
+        self.at == self.bytes.len()
+    }
+}
+
+/// The fault in a number of which these bytes were seen.
+fn fault(refusal: Refusal, seen: Range<usize>, slip: Slip) -> Fault {
+    let told = match slip {
+        Slip::PositionDropped => false,
+        Slip::PositionFor10 if refusal == ENDS_EARLY => true,
+        Slip::PositionFor12 if refusal == OUTSIDE_LIMITS => true,
+        _ => refusal == TOO_LONG || refusal == NOT_SHORTEST,
+    };
+    let place = match slip {
+        Slip::PositionOfLastGroup => seen.end.saturating_sub(1),
+        Slip::PositionBehindNumber => seen.end,
+        _ => seen.start,
+    };
+    Fault {
+        refusal: match (refusal, slip) {
+            (NOT_SHORTEST, Slip::NotShortestIs11 | Slip::BadFormsSwapped) => TOO_LONG,
+            (TOO_LONG, Slip::TooLongIs18 | Slip::BadFormsSwapped) => NOT_SHORTEST,
+            _ => refusal,
+        },
+        position: match told {
+            true => place as u64,
+            false => 0,
+        },
     }
 }
 
@@ -89,11 +155,7 @@ fn group_count(bytes: &[u8], slip: Slip) -> Result<usize, Refusal> {
         Slip::FiveGroupsAtEndIs11 => bytes.len() >= most - 1,
         _ => bytes.len() >= most,
     };
-    Err(if seen_enough {
-        NOT_SHORTEST
-    } else {
-        ENDS_EARLY
-    })
+    Err(if seen_enough { TOO_LONG } else { ENDS_EARLY })
 }
 
 fn most_groups(slip: Slip) -> usize {

@@ -1,6 +1,6 @@
 //! What a case's sheet says in numbers, and the length that it asks of its image.
 
-use super::number::Refusal;
+use super::number::{Fault, Refusal};
 use super::sheet::{check_sheet, read_sheet, Case, BYTES_AFTER_LAST_FIELD, PAGE_BYTES};
 use super::slip::Slip;
 
@@ -34,22 +34,22 @@ pub fn case_runs(
     slip: Slip,
 ) -> CaseRead {
     if slip == Slip::RoomBeforeSheet && buffer.len() < NUMBERS_A_RUN {
-        return refused(BUFFER_TOO_SHORT, None, slip);
+        return refused(BUFFER_TOO_SHORT.into(), None, slip);
     }
     let lengths = match slip {
         Slip::FileLengthsSwapped => (pagefile_length, image_length),
         _ => (image_length, pagefile_length),
     };
-    let alone = read_sheet(sheet).ok();
+    let alone = read_sheet(sheet, slip).ok();
     let short_alone = alone
         .as_ref()
         .is_some_and(|case| !has_room(case, buffer, slip));
     if slip == Slip::RoomBeforeFileLengths && short_alone {
-        return refused(BUFFER_TOO_SHORT, None, slip);
+        return refused(BUFFER_TOO_SHORT.into(), None, slip);
     }
-    let case = match check_sheet(sheet, lengths.0, lengths.1, Slip::None) {
+    let case = match check_sheet(sheet, lengths.0, lengths.1, slip) {
         Ok(case) => case,
-        Err(refusal) => return refused(refusal, alone.as_ref(), slip),
+        Err(fault) => return refused(fault, alone.as_ref(), slip),
     };
     if slip == Slip::RunsWrittenBeforeRefusal {
         write_runs(&case, buffer, slip);
@@ -59,7 +59,7 @@ pub fn case_runs(
             Slip::RunRoomIs45 => READ_BUFFER_TOO_SHORT,
             _ => BUFFER_TOO_SHORT,
         };
-        return refused(refusal, Some(&case), slip);
+        return refused(refusal.into(), Some(&case), slip);
     }
     write_runs(&case, buffer, slip);
     CaseRead {
@@ -75,17 +75,19 @@ pub fn case_runs(
     }
 }
 
-/// Only a slip tells anything of a refused case.
-fn refused(refusal: Refusal, case: Option<&Case>, slip: Slip) -> CaseRead {
+/// Of a refused case only a slip tells more than the fault.
+fn refused(fault: Fault, case: Option<&Case>, slip: Slip) -> CaseRead {
     CaseRead {
-        number: u64::from(refusal),
-        directory: match case {
-            Some(case) if slip == Slip::DirectoryOnRefusal => case.directory_page,
+        number: fault.number(),
+        directory: match (case, slip) {
+            (Some(case), Slip::DirectoryOnRefusal) => case.directory_page,
+            (_, Slip::CasePositionAsDirectory) => fault.position,
             _ => 0,
         },
-        length: match case {
-            Some(case) if slip == Slip::RunLengthOnRefusal => case.runs.len() as u64,
-            _ => 0,
+        length: match (case, slip) {
+            (Some(case), Slip::RunLengthOnRefusal) => case.runs.len() as u64,
+            (_, Slip::CasePositionDropped | Slip::CasePositionAsDirectory) => 0,
+            _ => fault.position,
         },
     }
 }
@@ -137,16 +139,21 @@ fn write_runs(case: &Case, buffer: &mut [u64], slip: Slip) {
 
 /// The bytes that the image must have, or the sheet's own fault.
 pub fn image_length(sheet: &[u8], slip: Slip) -> Asked {
-    let read = match read_sheet(sheet) {
-        Err(BYTES_AFTER_LAST_FIELD) if slip == Slip::AskedTrailingTaken => Ok(Case::default()),
+    let read = match read_sheet(sheet, slip) {
+        Err(fault)
+            if slip == Slip::AskedTrailingTaken && fault.refusal == BYTES_AFTER_LAST_FIELD =>
+        {
+            Ok(Case::default())
+        }
         read => read,
     };
     match read {
-        Err(refusal) => Asked {
-            number: u64::from(refusal),
+        Err(fault) => Asked {
+            number: fault.number(),
             length: match slip {
                 Slip::AskedLengthOnRefusal => PAGE_BYTES,
-                _ => 0,
+                Slip::AskedPositionDropped => 0,
+                _ => fault.position,
             },
         },
         Ok(case) => Asked {

@@ -1,6 +1,6 @@
 //! The case sheet: its fields, and its agreement with the two file lengths.
 
-use super::number::{judge_limit, Numbers, Refusal, NUMBER_LIMIT, OUTSIDE_LIMITS};
+use super::number::{judge_limit, Fault, Numbers, Refusal, NUMBER_LIMIT, OUTSIDE_LIMITS};
 use super::slip::Slip;
 
 /// A run's gap, length or end is wrong.
@@ -50,7 +50,7 @@ pub fn check_sheet(
     image_length: u64,
     pagefile_length: u64,
     slip: Slip,
-) -> Result<Case, Refusal> {
+) -> Result<Case, Fault> {
     let mut numbers = Numbers::new(sheet, slip);
     let mut case = Case::default();
     read_fields(&mut numbers, &mut case, slip)?;
@@ -62,13 +62,13 @@ pub fn check_sheet(
 }
 
 /// What a sheet says by itself, whatever the lengths of the files; or its first fault.
-pub fn read_sheet(sheet: &[u8]) -> Result<Case, Refusal> {
-    let mut numbers = Numbers::new(sheet, Slip::None);
+pub fn read_sheet(sheet: &[u8], slip: Slip) -> Result<Case, Fault> {
+    let mut numbers = Numbers::new(sheet, slip);
     let mut case = Case::default();
-    read_fields(&mut numbers, &mut case, Slip::None)?;
+    read_fields(&mut numbers, &mut case, slip)?;
     match numbers.at_end() {
         true => Ok(case),
-        false => Err(BYTES_AFTER_LAST_FIELD),
+        false => Err(BYTES_AFTER_LAST_FIELD.into()),
     }
 }
 
@@ -81,7 +81,7 @@ pub fn run_bytes_read(sheet: &[u8]) -> u64 {
     PAGE_BYTES * case.pages()
 }
 
-fn read_fields(numbers: &mut Numbers, case: &mut Case, slip: Slip) -> Result<(), Refusal> {
+fn read_fields(numbers: &mut Numbers, case: &mut Case, slip: Slip) -> Result<(), Fault> {
     let edition = numbers.read()?;
     if slip != Slip::EditionJudgedAfterDirectory {
         judge_edition(edition, slip)?;
@@ -138,7 +138,7 @@ fn read_runs(
     run_count: u64,
     runs: &mut Vec<Run>,
     slip: Slip,
-) -> Result<(), Refusal> {
+) -> Result<(), Fault> {
     let mut verdicts = Ok(());
     for _ in 0..run_count {
         if slip == Slip::MissingRunsTaken && numbers.at_end() && !runs.is_empty() {
@@ -158,23 +158,23 @@ fn read_runs(
         }
         runs.push(run);
     }
-    verdicts
+    Ok(verdicts?)
 }
 
 fn read_gap_and_length(
     numbers: &mut Numbers,
     before: Option<Run>,
     slip: Slip,
-) -> Result<(u64, u64), Refusal> {
+) -> Result<(u64, u64), Fault> {
     let gap = match slip {
         Slip::GapLimitJudgedAfterLength => numbers.read_unlimited()?,
         _ => numbers.read()?,
     };
     if slip == Slip::GapZeroJudgedBeforeLength && gap == 0 && before.is_some() {
-        return Err(RUN_WRONG);
+        return Err(RUN_WRONG.into());
     }
     if slip == Slip::StartJudgedBeforeLength && first_frame(gap, before, slip) >= NUMBER_LIMIT {
-        return Err(RUN_WRONG);
+        return Err(RUN_WRONG.into());
     }
     let pages = numbers.read()?;
     if slip == Slip::GapLimitJudgedAfterLength {

@@ -63,6 +63,18 @@ slips! {
         PagefileHalfPageTaken
     ;
 
+    /// The faults in telling a number over 6 groups or not in its shortest form, which every call on a sheet can have.
+    FORM_SLIPS:
+        NotShortestIs11
+        TooLongIs18
+        BadFormsSwapped
+        PositionOfLastGroup
+        PositionBehindNumber
+        PositionDropped
+        PositionFor10
+        PositionFor12
+    ;
+
     /// The faults in writing sheets, and in reading back what was written.
     WRITER_SLIPS:
         DirectoryUnlimited
@@ -260,6 +272,9 @@ slips! {
         ZerosFlagOfLastByte
         ZerosFlagOnRefusal
         ZerosFlagByValue
+        AddressPositionDropped
+        PagePositionHandedOut
+        ReadPositionDropped
     ;
 
     /// The faults in writing maps and in looking addresses up in them.
@@ -314,6 +329,13 @@ slips! {
         MapLimitOneTooHigh
         MapLimitOneTooLow
         MapLimitDropped
+        MapNotShortestIs11
+        MapTooLongIs18
+        MapBadFormsSwapped
+        MapPositionOfLastGroup
+        MapPositionBehindNumber
+        MapPositionFor10
+        MapPositionFor12
         MapEditionZeroTaken
         MapEditionTwoTaken
         MapEditionJudgedAfterStart
@@ -363,6 +385,8 @@ slips! {
         LookupForgetsPlaceInPage
         LookupKeepsPlaceInZeros
         LookupKeepsPlaceInRefusal
+        MapCallPositionDropped
+        LookupPositionDropped
     ;
 
     /// The faults in searching the processor block and in following the process list.
@@ -398,6 +422,7 @@ slips! {
         CountOfAllCandidates
         CountOfBlockDropped
         CountKeptFor55
+        BlockPositionDropped
         ListOfBadSheetTaken
         HeadBeforeSheet
         HeadUnalignedTaken
@@ -434,6 +459,7 @@ slips! {
         ListLengthOfBuffer
         ListLengthInBytes
         ListClearsRest
+        ListPositionDropped
     ;
 
     /// The faults in telling what a case's sheet says.
@@ -459,12 +485,15 @@ slips! {
         RunLengthOnRefusal
         RunsWrittenBeforeRefusal
         RunsClearRest
+        CasePositionDropped
+        CasePositionAsDirectory
         AskedLengthInPages
         AskedLengthOfFirstRun
         AskedLengthWithGaps
         AskedLengthIn32Bits
         AskedTrailingTaken
         AskedLengthOnRefusal
+        AskedPositionDropped
     ;
 
     /// The faults in searching the image for pool headers.

@@ -5,7 +5,7 @@ use super::codes::{
     OTHER_PAGEFILE, PAGEFILE, PAGE_IN_STORE, PAST_PAGEFILE, REGION_NEEDED, TABLE_NOT_VALID,
     UNALIGNED_PROTOTYPE, ZEROS,
 };
-use super::number::Refusal;
+use super::number::{Fault, Refusal};
 use super::sheet::{check_sheet, Case};
 use super::slip::Slip;
 
@@ -77,10 +77,10 @@ pub struct Walk<'a> {
 /// Number, offset and entries read for an address.
 pub fn resolve(files: Files, address: u64, slip: Slip) -> Answer {
     if slip == Slip::CanonicalBeforeSheet && !is_canonical(address, slip) {
-        return refused(NOT_CANONICAL);
+        return refused(NOT_CANONICAL.into(), slip);
     }
     match Walk::start(files, slip) {
-        Err(refusal) => refused(refusal),
+        Err(fault) => refused(fault, slip),
         Ok(mut walk) => {
             let place = walk.resolve(address);
             walk.answer(place, address)
@@ -89,10 +89,13 @@ pub fn resolve(files: Files, address: u64, slip: Slip) -> Answer {
 }
 
 /// A call refused before an entry is read.
-fn refused(refusal: Refusal) -> Answer {
+fn refused(fault: Fault, slip: Slip) -> Answer {
     Answer {
-        number: u64::from(refusal),
-        offset: 0,
+        number: fault.number(),
+        offset: match slip {
+            Slip::AddressPositionDropped => 0,
+            _ => fault.position,
+        },
         entries: 0,
         prototypes: 0,
         consulted: Vec::new(),
@@ -101,7 +104,7 @@ fn refused(refusal: Refusal) -> Answer {
 
 impl<'a> Walk<'a> {
     /// The walk, or the sheet's first fault.
-    pub fn start(files: Files<'a>, slip: Slip) -> Result<Self, Refusal> {
+    pub fn start(files: Files<'a>, slip: Slip) -> Result<Self, Fault> {
         let image_length = files.image.len() as u64;
         let pagefile_length = files.pagefile.len() as u64;
         let case = check_sheet(files.sheet, image_length, pagefile_length, slip)?;
