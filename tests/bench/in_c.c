@@ -8,13 +8,14 @@ enum { PAGE_BYTES = 4096, MOST_RUNS = 1000, MOST_NODES = 4096 };
 /* Refusals, as documents 01 and 02 number them. */
 enum {
     TRUNCATED = 10,
-    NUMBER_MALFORMED = 11,
+    NUMBER_TOO_LONG = 11,
     OUT_OF_LIMITS = 12,
     BAD_RUN = 13,
     TRAILING_BYTES = 14,
     IMAGE_LENGTH_DIFFERS = 15,
     PAGEFILE_NOT_WHOLE_PAGES = 16,
     SHEET_BUFFER_SHORT = 17,
+    NUMBER_NOT_SHORTEST = 18,
     NOT_CANONICAL = 20,
     UPPER_ENTRY_NOT_VALID = 21,
     REGION_NEEDED = 22,
@@ -58,10 +59,10 @@ static uint64_t read_field(const uint8_t *bytes, size_t length, size_t *at, uint
         uint64_t group = bytes[(*at)++];
         *value |= (group & 127) << shift;
         if (group >= 128) continue;
-        if (group == 0 && shift > 0) return NUMBER_MALFORMED;
+        if (group == 0 && shift > 0) return NUMBER_NOT_SHORTEST;
         return *value >> 36 ? OUT_OF_LIMITS : 0;
     }
-    return NUMBER_MALFORMED;
+    return NUMBER_TOO_LONG;
 }
 
 static uint64_t read_runs(const uint8_t *bytes, size_t length, size_t *at, uint64_t count, struct sheet *sheet, uint64_t *pages) {

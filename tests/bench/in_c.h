@@ -1,4 +1,6 @@
-/* The exported calls written in C, for comparison: the same answers wherever each entry read is valid or 0. */
+/* The exported calls written in C, for comparison: the same answers wherever each entry read is valid or 0, but for the
+ * position of a number refused by 11 or 18, which stays 0. With it gcc no longer compiles the check of the sheet into
+ * c_resolve, and C would be the slower for it. */
 #ifndef IN_C_H
 #define IN_C_H
 
