@@ -9,7 +9,7 @@ from library import Library
 from program import run
 
 MAP_PAGES = 16
-CASE_FAULTS, MAP_FAULTS = range(10, 17), (10, 11, 12, 14, 43)
+CASE_FAULTS, MAP_FAULTS = (*range(10, 17), 18), (10, 11, 12, 14, 18, 43)
 SANITIZER_WORDS = (b"Sanitizer", b"runtime error")
 
 

@@ -16,7 +16,7 @@ NUMBERS = ("0", "1", "0x", "-1", "00", "0x1000", "4096", "18446744073709551615",
 RANGES = ("0x1000+0x9E000", "0x1000-0x9EFFF", "4096-8192", "1+1", "0+0", "+", "-", "0x1000+", "0x1000-0xFFF", "0-0xFFFFFFFFFFFFFFFF")
 
 # The refusals of a case or a map as a whole.
-WHOLE_REFUSALS = (*range(10, 17), 43)
+WHOLE_REFUSALS = (*range(10, 17), 18, 43)
 
 
 class Misuse:
