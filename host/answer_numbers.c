@@ -15,3 +15,8 @@ bool is_refusal(uint64_t number)
 {
     return !has_kind(number, GLINT_KIND_ANSWER) && !has_kind(number, GLINT_KIND_PLACE);
 }
+
+bool has_position(uint64_t number)
+{
+    return number == GLINT_NUMBER_TOO_LONG || number == GLINT_NUMBER_NOT_SHORTEST;
+}

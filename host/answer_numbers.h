@@ -13,4 +13,7 @@ bool has_kind(uint64_t number, enum glint_kind kind);
 /* Also for a number that no answer has. */
 bool is_refusal(uint64_t number);
 
+/* Whether the refusal comes with the position of the number at fault, in the sheet or map. */
+bool has_position(uint64_t number);
+
 #endif

@@ -4,6 +4,7 @@
 #include "asked_length.h"
 #include "case_files.h"
 #include "fail.h"
+#include "faulty_number.h"
 #include "glintloom.h"
 #include "report.h"
 
@@ -39,8 +40,10 @@ int case_verb(const struct command *command)
     glint_case_read read =
         glint_case(files.sheet.bytes, files.sheet.length, files.image.length, files.pagefile.length, numbers, GLINT_CASE_NUMBERS);
     bool accepted = !is_refusal(read.number), asks = asked_image_length(files.sheet, &asked);
+    struct faulty_number faulty = faulty_number_in("sheet", files.sheet, read.number, read.length);
     check_mapped_files();
     begin_number(read.number);
+    add_faulty_position(&faulty);
     if (accepted) {
         struct run last = run_at(numbers, read.length - 1);
         add_value("directory_page", "directory page", read.directory);
@@ -53,6 +56,7 @@ int case_verb(const struct command *command)
     add_value("pagefile_length", "pagefile length", files.pagefile.length);
     if (accepted)
         report_runs(numbers, read.length);
+    add_faulty_row(&faulty);
     end_answer();
     return accepted ? ANSWERED : REFUSED;
 }

@@ -22,10 +22,11 @@ static const char *const explanations[] = {
         "The sheet or the map ends in the middle of a number, or before a field that its counts ask for. It was cut short, or "
         "a count or another number in it is wrong. Compare it with the one that the manual page takes apart byte by byte, and "
         "write it anew.",
-    [GLINT_NUMBER_MALFORMED] =
-        "A number of the sheet or the map has more than six groups of seven bits, or a last group of 0 that its shortest form "
-        "does not have (80 00 in place of 00). It was written so, or a byte before it is missing or too many, so that fields "
-        "are read at the wrong place. Write each number in its shortest form, and count the fields.",
+    [GLINT_NUMBER_TOO_LONG] =
+        "A number of the sheet or the map has more than six groups of seven bits: its sixth byte is 0x80 or more, which says "
+        "that a seventh follows. A byte of it is wrong, or one before it is missing or too many, so that fields are read at the "
+        "wrong place. Its first byte is told and marked: see what number is meant to stand there, and count the fields before "
+        "it.",
     [GLINT_OUT_OF_LIMITS] =
         "The edition is not 1, or a number is outside its limits: each is below 2^36, a sheet has 1 to 1,000 runs, and a map 1 to "
         "1,048,576 pages in one half of the addresses. A file that is no sheet or no map is mostly refused so: see first that "
@@ -50,6 +51,11 @@ static const char *const explanations[] = {
     [GLINT_SHEET_BUFFER_SHORT] =
         "The sheet is longer than the buffer that was lent for it, and nothing was written. This program lends enough for "
         "every sheet; another that calls glint_write_sheet does so with GLINT_SHEET_BYTES bytes.",
+    [GLINT_NUMBER_NOT_SHORTEST] =
+        "A number of the sheet or the map has a last group of 0, which its shortest form does not have (80 00 in place of 00, "
+        "81 00 in place of 01). It was written so, or a byte before it is missing or too many, so that fields are read at the "
+        "wrong place. Its first byte is told and marked: write the number that begins there in its shortest form, or count the "
+        "fields before it.",
 
     [GLINT_NOT_CANONICAL] =
         "Bits 47 to 63 of the address are not all equal, so the processor takes it for no address; or a read goes on past the "

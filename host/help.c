@@ -18,8 +18,9 @@ static const char address_help[] =
 
 static const char answer_help[] =
     "A page of zeros is filled in where the tables say so, and is marked in words: on standard error with -o.\n"
-    "A refusal is shown with its number and words; no byte is shown and no file is made for it. A case or map that is\n"
-    "refused as a whole is told once, whatever was asked.\n";
+    "A refusal is shown with its number and words; no byte of a page is shown and no file is made for it. A case or map\n"
+    "that is refused as a whole is told once, whatever was asked; for 11 and 18 the byte at which the number begins is\n"
+    "told and marked.\n";
 
 static const char status_help[] =
     "Exit status: 0 answered; 1 refused, also if only one of several addresses is; 2 wrong use, a file that cannot\n"

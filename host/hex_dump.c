@@ -5,7 +5,6 @@
 #include <string.h>
 
 enum {
-    ROW_BYTES = 16,
     HALF_ROW = 8,
     BYTES_AT = 20,                            /* behind 0x, the address and two blanks */
     TEXT_AT = BYTES_AT + 3 * ROW_BYTES + 2,   /* a blank between the halves, one before the text */
@@ -21,6 +20,12 @@ static void put_byte(char *at, uint8_t byte)
     at[1] = digits[byte & 15];
 }
 
+/* Where the digits of a row's byte stand. */
+static size_t digits_at(size_t place)
+{
+    return BYTES_AT + 3 * place + (place >= HALF_ROW);
+}
+
 static void print_row(uint64_t address, const uint8_t *bytes, size_t count)
 {
     char row[ROW_END];
@@ -31,7 +36,7 @@ static void print_row(uint64_t address, const uint8_t *bytes, size_t count)
         put_byte(row + 2 + 2 * i, (uint8_t)(address >> (56 - 8 * i)));
     row[TEXT_AT] = '|';
     for (size_t i = 0; i < count; i++) {
-        put_byte(row + BYTES_AT + 3 * i + (i >= HALF_ROW), bytes[i]);
+        put_byte(row + digits_at(i), bytes[i]);
         row[TEXT_AT + 1 + i] = bytes[i] >= ' ' && bytes[i] <= '~' ? (char)bytes[i] : '.';
     }
     row[TEXT_AT + 1 + count] = '|';
@@ -56,6 +61,13 @@ void print_hex_dump(uint64_t address, const uint8_t *bytes, size_t length)
         if (!repeated)
             print_row(address + at, bytes + at, length - at < ROW_BYTES ? length - at : ROW_BYTES);
     }
+}
+
+void print_marked_row(uint64_t position, const uint8_t *row, size_t count)
+{
+    size_t place = position % ROW_BYTES;
+    print_row(position - place, row, count);
+    printf("%*s^^\n", (int)digits_at(place), "");
 }
 
 void print_hex_digits(const uint8_t *bytes, size_t length)

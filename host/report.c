@@ -232,6 +232,14 @@ void add_refused_address(uint64_t address)
         printf(", first at 0x%016" PRIX64, address);
 }
 
+void add_position(uint64_t position, const char *file)
+{
+    if (json)
+        put_json_hex("position", position);
+    else
+        printf(", at byte 0x%" PRIX64 " of the %s", position, file);
+}
+
 void add_start(uint64_t offset)
 {
     if (json)
@@ -396,6 +404,13 @@ void add_dump(uint64_t address, const uint8_t *bytes, size_t length)
     if (!json)
         print_hex_dump(address, bytes, length);
     check_output(true);
+}
+
+void add_marked_row(uint64_t position, const uint8_t *row, size_t count)
+{
+    close_line();
+    if (!json)
+        print_marked_row(position, row, count);
 }
 
 void add_digits(const uint8_t *bytes, size_t length)

@@ -19,6 +19,7 @@ void add_offset(uint64_t number, uint64_t offset);
 void add_entries(uint64_t entries);
 void add_length(uint64_t bytes);
 void add_refused_address(uint64_t address);
+void add_position(uint64_t position, const char *file);    /* of a byte of the sheet or map */
 void add_start(uint64_t offset);
 void add_block(uint64_t self, uint64_t directory_word);
 void add_nodes(const uint64_t *nodes, uint64_t count);
@@ -43,8 +44,9 @@ void end_headers(uint64_t image_length, uint64_t count);
 void begin_items(const char *name);
 void end_items(void);
 
-/* Bytes, as lines of a hex dump only, or as digits of a JSON string only. */
+/* Bytes, as lines of a hex dump only, or as digits of a JSON string only; of a dump also one line with a mark. */
 void add_dump(uint64_t address, const uint8_t *bytes, size_t length);
+void add_marked_row(uint64_t position, const uint8_t *row, size_t count);
 void add_digits(const uint8_t *bytes, size_t length);
 
 /* The end of an outermost item. */

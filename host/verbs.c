@@ -4,6 +4,7 @@
 #include "case_files.h"
 #include "explanations.h"
 #include "fail.h"
+#include "faulty_number.h"
 #include "glintloom.h"
 #include "mapped_file.h"
 #include "memory.h"
@@ -66,11 +67,14 @@ int resolve_verb(const struct command *command)
 static bool report_map_fault(const struct mapped_file *map)
 {
     /* A lookup judges the map before it judges the address, so any address will do. */
-    uint64_t number = glint_lookup(map->bytes, map->length, 0).number;
-    if (!has_kind(number, GLINT_KIND_CASE) && number != GLINT_BAD_EXTENT)
+    glint_found found = glint_lookup(map->bytes, map->length, 0);
+    if (!has_kind(found.number, GLINT_KIND_CASE) && found.number != GLINT_BAD_EXTENT)
         return false;
+    struct faulty_number faulty = faulty_number_in("map", *map, found.number, found.offset);
     check_mapped_files();
-    begin_fault("map", number);
+    begin_fault("map", found.number);
+    add_faulty_position(&faulty);
+    add_faulty_row(&faulty);
     end_fault();
     return true;
 }

@@ -32,8 +32,8 @@ def damaged(content, chance):
 
 
 def place(shown):
-    """Number, offset and, where there are any, entries read of an answer."""
-    offset = int(shown.get("offset", "0x0"), 16)
+    """Number, offset or position and, where there are any, entries read of an answer."""
+    offset = int(shown.get("offset", shown.get("position", "0x0")), 16)
     return tuple([shown["number"], offset] + [shown[name] for name in ("entries",) if name in shown])
 
 
@@ -87,8 +87,8 @@ class Damage:
         for path, content in zip(self.paths, case):
             path.write_bytes(content)
         verbs = (self.case, self.resolve, self.page, self.read, self.map, self.lookup, self.processor_block, self.list, self.pool)
-        verb, fault = self.chance.choice(verbs), self.library.resolve(case, 0)[0]
-        if fault in CASE_FAULTS and verb not in (self.lookup, self.case, self.pool):
+        verb, fault = self.chance.choice(verbs), self.library.resolve(case, 0)[:2]
+        if fault[0] in CASE_FAULTS and verb not in (self.lookup, self.case, self.pool):
             self.refused_case(fault)
         else:
             verb(case)
@@ -97,8 +97,7 @@ class Damage:
         """Whatever is asked, and if nothing is, the case is refused once."""
         numbers = [self.address() for _ in range(self.chance.randrange(3))]
         verb = self.chance.choice(("resolve", "page", ("processor-block", "list", "read")[len(numbers)]))
-        shown = [one["number"] for one in self.run_json(verb, *self.paths, *numbers)]
-        self.expect((verb, numbers), shown, [fault])
+        self.expect((verb, numbers), [place(one) for one in self.run_json(verb, *self.paths, *numbers)], [fault])
 
     def case(self, case):
         shown = self.run_json("case", *self.paths)[0]
@@ -106,7 +105,7 @@ class Damage:
         runs = [(first, last + 1 - first, page) for first, last, page in runs]
         answered = (shown["number"], int(shown.get("directory_page", "0"), 16), runs)
         self.expect(("case",), answered, self.library.case(case))
-        asked = int(shown.get("asked_length", "0"), 16)
+        asked = int(shown.get("asked_length", shown.get("position", "0")), 16)
         self.expect(("case",), asked, self.library.image_length(case[0])[1])
 
     def resolve(self, case):

@@ -34,6 +34,24 @@ def fault(name, number, rest=""):
     return f"{name:18}  {number:2} refused: {REFUSALS[number]}{rest}"
 
 
+def at_byte(position, file):
+    """Behind the line of a number at fault: the byte of its file at which it begins."""
+    return f", at byte 0x{position:X} of the {file}"
+
+
+def marked_row(content, position):
+    """The line of a file's dump that holds a byte, and a mark below the byte's digits."""
+    start = position - position % 16
+    (row,) = dump(start, content[start : start + 16])
+    places = [match.start() for match in re.finditer(r"(?<= )[0-9A-F]{2} ", row.split("|")[0])]
+    return [row, " " * places[position - start] + "^^"]
+
+
+def faulty_number(name, number, content, position):
+    """The lines for a case or a map that is refused for a number of the sheet or map."""
+    return [fault(name, number, at_byte(position, "sheet" if name == "case" else name)), *marked_row(content, position)]
+
+
 def block(offset, self_address, directory_page, entries):
     """The line for a processor block."""
     words = f"Self 0x{self_address:016X}, directory page 0x{directory_page:09X}, CR3 0x{directory_page << 12:016X}"

@@ -30,6 +30,11 @@ def slices(*parts):
     return [argument for part in parts for argument in (part, SIZE(len(part)))]
 
 
+def written(number, length, room):
+    """What stands in a buffer: nothing after a refusal, whose length is 0 or a position."""
+    return room[: length if number == 0 else 0]
+
+
 class Library:
     def __init__(self):
         self.loaded = ctypes.CDLL(str(BUILT / "libglintloom.so"))
@@ -52,13 +57,13 @@ class Library:
         """Number, bytes and whether one came from a page of zeros."""
         room = (ctypes.c_uint8 * n)()
         number, length, zeros = self.call("glint_read", case, address, n, room, SIZE(n))
-        return number, bytes(room[:length]), zeros
+        return number, bytes(written(number, length, room)), zeros
 
     def map(self, case, start, pages):
         """Number and bytes."""
         room = (ctypes.c_uint8 * (10 + 8 * pages))()
         number, length = self.call("glint_map", case, start, pages, room, SIZE(len(room)))
-        return number, bytes(room[:length])
+        return number, bytes(written(number, length, room))
 
     def lookup(self, content, address):
         return self.call("glint_lookup", [content], address)
@@ -70,14 +75,15 @@ class Library:
         """Number and nodes."""
         room = (U64 * 4096)()
         number, length = self.call("glint_process_list", case, head, room, SIZE(len(room)))
-        return number, list(room[:length])
+        return number, written(number, length, room)
 
     def case(self, case):
         """Number, directory page and runs as (first frame, pages, image page)."""
         sheet, image, pagefile = case
         room = (U64 * 3000)()
         number, directory, runs = self.call("glint_case", [sheet], len(image), len(pagefile), room, SIZE(len(room)))
-        return number, directory, [tuple(room[3 * k : 3 * k + 3]) for k in range(runs)]
+        numbers = written(number, 3 * runs, room)
+        return number, directory, [tuple(numbers[k : k + 3]) for k in range(0, len(numbers), 3)]
 
     def image_length(self, sheet):
         return self.call("glint_image_length", [sheet])
@@ -86,7 +92,7 @@ class Library:
         """Number and offsets, with a place for each word."""
         room = (U64 * (len(image) // 8))()
         number, length = self.call("glint_pool_headers", [image], room, SIZE(len(room)))
-        return number, list(room[:length])
+        return number, written(number, length, room)
 
     def write_sheet(self, directory, runs):
         """Number and bytes; the runs as (first page, pages)."""
@@ -94,4 +100,4 @@ class Library:
         room = (ctypes.c_uint8 * 12009)()
         lists = slices(starts, lengths)
         number, length = self.call("glint_write_sheet", [], directory, *lists, room, SIZE(len(room)))
-        return number, bytes(room[:length])
+        return number, bytes(written(number, length, room))

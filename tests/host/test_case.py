@@ -67,7 +67,7 @@ class Case(HostTest):
     def test_refused_for_a_fault_of_the_sheet(self):
         good = sheet_of(1, [(1, 4)])
         wrong_run = bytes([1, 1, 2, 1, 4, 0, 1])
-        for sheet, number in ((good[:-1], 10), (b"\x80\x00", 11), (b"\x02", 12), (wrong_run, 13), (good + b"\0", 14)):
+        for sheet, number in ((good[:-1], 10), (b"\x02", 12), (wrong_run, 13), (good + b"\0", 14)):
             case = self.sparse_case(sheet, 4 * PAGE, PAGE)
             self.says(["case", *case], REFUSED, [refused_line(number, None, 4 * PAGE, PAGE)])
 

@@ -3,8 +3,9 @@ import re
 import subprocess
 
 from cases import MACHINE_IMAGE, MACHINE_RUNS, PAGE, VALID, Memory, sheet_of
+from expected import faulty_number
 from library import Library
-from program import ANSWERED, BUILT, ROOT, HostTest, Program, run
+from program import ANSWERED, BUILT, REFUSED, ROOT, HostTest, Program, run
 
 README = (ROOT / "README.md").read_text()
 MANUAL = (ROOT / "host" / "glintloom.1").read_text()
@@ -54,6 +55,14 @@ class ByteByByte(HostTest):
             self.assertEqual(run(*words, cwd=self.directory).returncode, ANSWERED)
             self.assertEqual((self.directory / "sheet").read_bytes(), sheet_of(DIRECTORY_PAGE, MACHINE_RUNS))
             (self.directory / "sheet").unlink()
+
+    def test_sheet_with_a_number_at_fault(self):
+        """The run count with a group more; the image does not matter."""
+        sheet = sheet_of(DIRECTORY_PAGE, MACHINE_RUNS).replace(b"\x03\x02", b"\x03\x82\x00")
+        lines = faulty_number("case", 18, sheet, 3)
+        self.assertIn("".join(f"\n    {line}" for line in lines), README)
+        path = self.write("sheet", sheet)
+        self.says(["resolve", path, path, "--no-pagefile"], REFUSED, lines)
 
     def test_map(self):
         """The map call makes these bytes of a case with two pages at 0xB10000 that are image pages 5 and 6."""

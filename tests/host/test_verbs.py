@@ -4,7 +4,7 @@ import re
 
 from cases import BLOCK_PLACES, PAGE, RING_PAGES, SHIPPED, Memory, make_case
 from cases import block_case, large_page_case, list_case, printed_machine, ring_case, sheet_of, shipped_case
-from expected import REFUSALS, SHIPPED_MAP, WORDS, block, done, dump, fault, first_at, no_block, place, stretch
+from expected import REFUSALS, SHIPPED_MAP, WORDS, block, done, dump, fault, faulty_number, first_at, no_block, place, stretch
 from expected import shipped_answers, shipped_lines
 from program import ANSWERED, REFUSED, HostTest, run, with_little_memory
 
@@ -242,7 +242,6 @@ class MapAndLookup(HostTest):
         for content, number in (
             (b"", 10),
             (SHIPPED_MAP[:-1], 10),
-            (b"\x80\x00", 11),
             (b"\x02", 12),
             (SHIPPED_MAP + b"\0", 14),
             (b"\1\0\1\4", 43),
@@ -314,7 +313,7 @@ class BlocksAndLists(HostTest):
         self.says(["list", *case, head + 8], REFUSED, [place(head + 8, 51)])
         self.says(["list", *case, "0x1000"], REFUSED, [place(0x1000, 21)])
         files.sheet.write_bytes(b"\x80\x00")
-        self.says(["list", *case, head], REFUSED, [fault("case", 11)])
+        self.says(["list", *case, head], REFUSED, faulty_number("case", 18, b"\x80\x00", 0))
 
 
 class ExplainAndHelp(HostTest):
@@ -340,7 +339,7 @@ class ExplainAndHelp(HostTest):
         self.assertEqual(len(texts), len(WORDS))
 
     def test_numbers_that_no_answer_has(self):
-        for number in (4, 9, 18, 30, 32, 42, 46, 54, 56, 99, 2**32 + 22, 2**64 - 1):
+        for number in (4, 9, 19, 30, 32, 42, 46, 54, 56, 99, 2**32 + 22, 2**64 - 1):
             self.fails(["explain", number], f"no answer has the number {number}")
         self.fails(["explain", 22, 99], "99")
 
