@@ -1,0 +1,4 @@
+pub mod Judging
+pub mod Doubles
+pub mod Field
+pub mod Examples
