@@ -5,12 +5,14 @@ use case::Answer;
 use case_runs::CaseRead;
 use lookup::Found;
 use reading::BytesRead;
+use times::TimeRead;
 ghost use mathlib.Core.Path.{_≡_};
 ghost use Rattle.case_runs.specs.Call.{caseRunsOf, imageLengthOf};
 ghost use Rattle.case.specs.Case.{caseOf};
 ghost use Rattle.address.specs.Page.{partBytes};
 ghost use Rattle.address.specs.Call.{AddressAnswer, PageAnswer, PageBytesAnswer};
 ghost use Rattle.reading.specs.Call.{ReadAnswer};
+ghost use Rattle.times.specs.Call.{TimeAnswer};
 ghost use Rattle.lookup.specs.Call.{LookupAnswer};
 ghost use Rattle.maps.specs.Call.{MapAnswer};
 ghost use Rattle.processor_block.specs.Call.{BlockAnswer};
@@ -46,6 +48,18 @@ pub extern "C" fn glint_read(
     ensures { λ r. ⌜ ReadAnswer (caseOf (now (sheet .entry)) (now (image .entry)) (now (pagefile .entry))) address n (now (out .entry)) r (now (out .exit)) ⌝ }
 {
     reading::read_bytes(sheet, image, pagefile, address, n, out)
+}
+
+#[no_mangle]
+pub extern "C" fn glint_read_time(
+    sheet: &[u8],
+    image: &[u8],
+    pagefile: &[u8],
+    address: u64,
+) -> TimeRead
+    ensures { λ r. ⌜ TimeAnswer (caseOf (now (sheet .entry)) (now (image .entry)) (now (pagefile .entry))) address r ⌝ }
+{
+    times::read_time(sheet, image, pagefile, address)
 }
 
 #[no_mangle]
