@@ -183,7 +183,7 @@ impl Memory {
     }
 
     /// A large page that holds one of the image's frames.
-    fn lay_large(&mut self, level: u32) -> (u64, Home) {
+    pub fn lay_large(&mut self, level: u32) -> (u64, Home) {
         let image_page = self.take_page();
         let frame = self.frames[image_page];
         let page = self.page_in_large(level, frame);
@@ -205,11 +205,18 @@ impl Memory {
         page
     }
 
-    /// An entry above the last level that is not valid, wide, or names a table in no run.
+    /// Lays a page behind an odd entry above the last level.
     fn lay_odd_upper(&mut self) -> u64 {
         let level = 1 + self.random.below(3) as u32;
         let page = self.page_beside_tables(level);
-        let entry = match self.random.below(6) {
+        let entry = self.odd_upper_entry(level);
+        self.put_entry(page, level, entry);
+        page
+    }
+
+    /// An entry above the last level that is not valid, wide, or names a table in no run.
+    pub fn odd_upper_entry(&mut self, level: u32) -> u64 {
+        match self.random.below(6) {
             0 => 0,
             1 => self.random.next() & !VALID,
             2 => self.transition_in(self.frames[0]),
@@ -221,9 +228,7 @@ impl Memory {
                 let frame = self.any_frame();
                 self.table(frame, level) | self.wide()
             }
-        };
-        self.put_entry(page, level, entry);
-        page
+        }
     }
 
     /// An entry that names a page of either file or of zeros.

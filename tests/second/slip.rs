@@ -462,6 +462,60 @@ slips! {
         ListPositionDropped
     ;
 
+    /// The faults in reading a time.
+    TIME_SLIPS:
+        TimeOfBadSheetTaken
+        RefusedFieldTakenForZeros
+        FieldAddressRoundedDown
+        FieldOf4Bytes
+        FieldOf7Bytes
+        NinthByteJudged
+        FieldCutAtPageEnd
+        FieldRunsOnInFile
+        FieldWrapsTop
+        FieldStopsAtTop
+        FieldCrossesCanonicalEdge
+        FieldLastRefusalWins
+        FieldHighestByteFirst
+        FieldHighHalfFirst
+        FieldHighHalfDropped
+        FieldOfZerosIs3
+        ZerosAnywhereAre60
+        TimeZeroTaken
+        TimeZeroIs3
+        TimeZeroIs61
+        TimeOfOneTakenForZero
+        LowHalfZeroIs60
+        HighHalfZeroIs60
+        NoSecondsIs60
+        TicksUnlimited
+        TicksOf2To63Taken
+        LargestTimeRefused
+        AllBitsSetAloneIs61
+        TimeTooLargeIs60
+        TimeFrom1970
+        SecondsOf1000000Ticks
+        SecondsRoundedUp
+        SecondsRoundedToNearest
+        SecondsIn32Bits
+        SecondsInSinglePrecision
+        SecondsWithFraction
+        SecondsDividedInDoubles
+        NoSecondsAreMinusZero
+        RestOf1000000Ticks
+        RestInMicroseconds
+        RestInNanoseconds
+        RestInSeconds
+        RestDropped
+        AllTicksForRest
+        RestOfTicksInDoubles
+        NoRestIsMinusZero
+        SecondsAndRestSwapped
+        NumbersOnRefusal
+        MinusZeroOnRefusal
+        NotANumberOnRefusal
+    ;
+
     /// The faults in telling what a case's sheet says.
     CASE_SLIPS:
         RoomBeforeSheet
