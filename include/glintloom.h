@@ -37,7 +37,8 @@ enum glint_kind {
     GLINT_KIND_PLACE,      /* it answers with a place in a file */
     GLINT_KIND_CASE,       /* it refuses the case as a whole; some of these refuse a map, or runs to be written, too */
     GLINT_KIND_ADDRESS,    /* it refuses an address of the case */
-    GLINT_KIND_CALL        /* it refuses by a rule of its own, on maps, reads, lists, blocks, pools or sheets to be written */
+    GLINT_KIND_CALL        /* it refuses by a rule of its own, on maps, reads, times, lists, blocks, pools or sheets to be
+                              written */
 };
 
 /* The numbers of the answers, each as (name, number, kind, words). */
@@ -79,6 +80,8 @@ enum glint_kind {
     X(TOO_MANY_PROCESSES, 52, CALL, "over 4,096 processes")                                     \
     X(LIST_BUFFER_SHORT, 53, CALL, "list buffer too short")                                     \
     X(NO_PROCESSOR_BLOCK, 55, CALL, "no processor block at or after the offset")                \
+    X(TIME_ZERO, 60, CALL, "time zero")                                                         \
+    X(TIME_TOO_LARGE, 61, CALL, "ticks of 2^63 or more")                                        \
     X(IMAGE_NOT_WHOLE_PAGES, 70, CALL, "image not whole pages")                                 \
     X(POOL_BUFFER_SHORT, 71, CALL, "more pool headers than the list buffer has places")
 
@@ -128,6 +131,12 @@ typedef struct { uint64_t number, directory, length; } glint_case_read;
  * for 11 and 18 the position, else 0. */
 typedef struct { uint64_t number, offset; } glint_found;
 
+/* Whole seconds since 1 January 1601 UTC, and the ticks of 100 nanoseconds left over, 0 to 9,999,999; both exact. */
+typedef struct { double seconds, ticks; } glint_time;
+
+/* number: 0, or a refusal (then both doubles are 0). */
+typedef struct { uint64_t number; glint_time time; } glint_time_answer;
+
 /* These two are plain C and not proved; the calls after them are. Their texts stay for the whole run. */
 
 /* The version of the library that runs, as "MAJOR.MINOR.PATCH". */
@@ -150,6 +159,11 @@ glint_part glint_page(const uint8_t *sheet, size_t sheet_length, const uint8_t *
 glint_bytes glint_read(const uint8_t *sheet, size_t sheet_length, const uint8_t *image, size_t image_length,
                        const uint8_t *pagefile, size_t pagefile_length, uint64_t address, uint64_t n,
                        uint8_t *out, size_t out_length);
+
+/* The time in the 8 bytes from an address on, at any alignment: a FILETIME, lowest byte first. Refused in this order: by the
+ * first byte that is refused, 60 for eight zeros, also those of a page of zeros, 61 for 2^63 ticks or more. */
+glint_time_answer glint_read_time(const uint8_t *sheet, size_t sheet_length, const uint8_t *image, size_t image_length,
+                                  const uint8_t *pagefile, size_t pagefile_length, uint64_t address);
 
 /* The map of `pages` pages (1 to 2^20) from `start` (a multiple of 4,096) on into `out`: 44 exactly if it is longer than
  * `out`. Bytes past the map stay. A library without number 31 took a page of the compressed store for one of the pagefile:
