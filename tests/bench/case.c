@@ -93,12 +93,20 @@ static void make_list(struct bench_case *c, const uint64_t *unused) {
     c->list_head = KERNEL + order[0] * PAGE_BYTES + places[order[0]];
 }
 
+/* Words that are ticks of years from 1970 on. */
+static void fill_with_times(struct bench_case *c) {
+    for (size_t o = 0; o < c->image_length; o += 8) {
+        uint64_t ticks = 116444736000000000u + next_random() % ((uint64_t)1 << 54);
+        memcpy(c->image + o, &ticks, 8);
+    }
+}
+
 void make_walk_case(struct bench_case *c, uint8_t *image, size_t run_count) {
     static uint64_t free_pages[FRAMES - 1];
     c->image = image;
     c->image_length = WALK_IMAGE_BYTES;
     make_runs(c, run_count);
-    memset(image, 0, c->image_length);
+    fill_with_times(c);
     for (uint64_t i = 0; i < FRAMES - 1; i++) free_pages[i] = i + 1;
     shuffle(free_pages, FRAMES - 1);
     make_list(c, map_pages(c, free_pages));

@@ -29,7 +29,7 @@ struct bench_case {
 uint64_t next_random(void);
 
 /* An image in so many runs, whose tables map MAPPED_PAGES pages from address 0 on, and a list of LIST_NODES nodes in
- * kernel space. `image` has room for WALK_IMAGE_BYTES. */
+ * kernel space; all other words are times. `image` has room for WALK_IMAGE_BYTES. */
 void make_walk_case(struct bench_case *c, uint8_t *image, size_t run_count);
 
 /* Runs that do not touch, with gaps and lengths of up to 2^21 pages. */

@@ -29,6 +29,8 @@ enum {
     TOO_MANY_PROCESSES = 52,
     LIST_BUFFER_SHORT = 53,
     NO_PROCESSOR_BLOCK = 55,
+    TIME_ZERO = 60,
+    TIME_TOO_LARGE = 61,
     IMAGE_NOT_WHOLE_PAGES = 70,
     TOO_MANY_POOL_HEADERS = 71
 };
@@ -210,6 +212,23 @@ glint_bytes c_read(const uint8_t *sheet, size_t sheet_length, const uint8_t *ima
     if ((fault = read_pass(&w, address, n, out, false))) return (glint_bytes){fault, 0, 0};
     read_pass(&w, address, n, out, true);
     return (glint_bytes){0, n, 0};
+}
+
+static glint_time_answer no_time(uint64_t number) { return (glint_time_answer){number, {0, 0}}; }
+
+glint_time_answer c_read_time(const uint8_t *sheet, size_t sheet_length, const uint8_t *image, size_t image_length,
+                              const uint8_t *pagefile, size_t pagefile_length, uint64_t address) {
+    struct sheet s;
+    uint8_t field[8];
+    uint64_t fault = check_sheet(sheet, sheet_length, image_length, pagefile_length, &s);
+    (void)pagefile;
+    if (fault) return no_time(fault);
+    struct world w = world_of(&s, image, image_length);
+    if ((fault = read_pass(&w, address, sizeof field, field, true))) return no_time(fault);
+    uint64_t ticks = word_at(field);
+    if (ticks == 0) return no_time(TIME_ZERO);
+    if (ticks >> 63) return no_time(TIME_TOO_LARGE);
+    return (glint_time_answer){0, {(double)(ticks / 10000000), (double)(ticks % 10000000)}};
 }
 
 /* ---- maps */

@@ -22,6 +22,8 @@ glint_answer c_resolve(const uint8_t *sheet, size_t sheet_length, const uint8_t 
 glint_bytes c_read(const uint8_t *sheet, size_t sheet_length, const uint8_t *image, size_t image_length,
                    const uint8_t *pagefile, size_t pagefile_length, uint64_t address, uint64_t n,
                    uint8_t *out, size_t out_length);
+glint_time_answer c_read_time(const uint8_t *sheet, size_t sheet_length, const uint8_t *image, size_t image_length,
+                              const uint8_t *pagefile, size_t pagefile_length, uint64_t address);
 glint_written c_map(const uint8_t *sheet, size_t sheet_length, const uint8_t *image, size_t image_length,
                     const uint8_t *pagefile, size_t pagefile_length, uint64_t start, uint64_t pages,
                     uint8_t *out, size_t out_length);

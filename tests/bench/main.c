@@ -18,6 +18,7 @@ struct calls {
     __typeof__(bench_walk_one) *walk_one;
     __typeof__(glint_resolve) *resolve;
     __typeof__(glint_read) *read;
+    __typeof__(glint_read_time) *read_time;
     __typeof__(glint_map) *map;
     __typeof__(glint_write_sheet) *write_sheet;
     __typeof__(glint_processor_block) *processor_block;
@@ -26,9 +27,9 @@ struct calls {
 };
 
 static const struct calls exported = {
-    bench_walk_pages,  bench_walk_one,        glint_resolve,      glint_read,        glint_map,
+    bench_walk_pages,  bench_walk_one,        glint_resolve,      glint_read,        glint_read_time, glint_map,
     glint_write_sheet, glint_processor_block, glint_process_list, glint_pool_headers};
-static const struct calls in_c = {c_walk_pages,  c_walk_one,        c_resolve,      c_read,        c_map,
+static const struct calls in_c = {c_walk_pages,  c_walk_one,        c_resolve,      c_read,        c_read_time, c_map,
                                   c_write_sheet, c_processor_block, c_process_list, c_pool_headers};
 
 static const uint8_t no_pagefile[1];
@@ -95,6 +96,18 @@ static uint64_t read_small(const struct calls *call, const struct bench_case *c,
 
 static uint64_t read_large(const struct calls *call, const struct bench_case *c, uint8_t *out) {
     return read_random(call, c, out, LARGE_READS, LARGE);
+}
+
+static uint64_t time_random(const struct calls *call, const struct bench_case *c, uint8_t *out) {
+    uint64_t sum = 0;
+    (void)out;
+    for (int i = 0; i < SMALL_READS; i++) {
+        glint_time_answer answer = call->read_time(CASE(c), random_addresses[i] / 16 * 8);
+        /* A link of the list has too many ticks. */
+        unexpected += answer.number != 0 && answer.number != GLINT_TIME_TOO_LARGE;
+        sum += answer.number + (uint64_t)answer.time.seconds + (uint64_t)answer.time.ticks;
+    }
+    return sum;
 }
 
 static uint64_t map_all(const struct calls *call, const struct bench_case *c, uint8_t *out) {
@@ -165,6 +178,7 @@ static const struct work walk_works[] = {
     {"address, random, a call", ADDRESSES, resolve_random, NULL, NULL},
     {"address, random, a call; C does not check the sheet", ADDRESSES, resolve_random, NULL, resolve_checked},
     {"read of 64 bytes, random, a call", SMALL_READS, read_small, NULL, NULL},
+    {"time, random, a call", SMALL_READS, time_random, NULL, NULL},
     {"read of 64 KiB, random, a call", LARGE_READS, read_large, copy_large, NULL},
     {"map of 2^20 pages, a page", MAPPED_PAGES, map_all, NULL, NULL},
     {"process list of 4,096 nodes, a node", (double)LISTS * LIST_NODES, list_nodes, NULL, NULL},
