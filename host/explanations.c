@@ -4,8 +4,8 @@
 
 static const char *const explanations[] = {
     [GLINT_DONE] =
-        "The read, the map, the list or the sheet is there as a whole, with its length beside it. Nothing in it was guessed: "
-        "had a byte of it not been found, all of it would have been refused.",
+        "The read, the map, the list or the sheet is there as a whole, with its length beside it, or the time with its date. "
+        "Nothing in it was guessed: had a byte of it not been found, all of it would have been refused.",
     [GLINT_IN_IMAGE] =
         "The page tables lead to a page of physical memory that is in one of the sheet's runs; the offset is that of the "
         "addressed byte in the image file. For processor-block it is the offset of the block. The verbs page and read show "
@@ -134,6 +134,14 @@ static const char *const explanations[] = {
         "From the given offset on, the image has no processor block (KPCR) of 64-bit Windows 7. A block counts only if its own "
         "address leads back to it by its own directory page (CR3); the sheet's directory page is not asked, but wrong runs "
         "hide every block. Check the runs, and that the machine ran 64-bit Windows 7.",
+    [GLINT_TIME_ZERO] =
+        "The 8 bytes from the address on are all 0: no time was set there, and none is shown, neither 1601 nor 1970. If bytes of "
+        "it are those of a page of zeros, that stands beside it. See that the address is that of the time; the verb read shows "
+        "what is around it.",
+    [GLINT_TIME_TOO_LARGE] =
+        "The 8 bytes from the address on are 2^63 ticks of 100 ns or more, from September 30828 on, which is no time that "
+        "Windows keeps. They are damaged, or they are no time. See that the address is that of the time; the verb read shows what is "
+        "around it.",
     [GLINT_IMAGE_NOT_WHOLE_PAGES] =
         "Pool headers are looked for page by page, and the image's length is not a multiple of 4,096. It was cut short, or is not "
         "a raw image: copy it again, without header and filler.",

@@ -28,6 +28,9 @@ struct addresses {
 
 struct addresses addresses_of(const uint64_t *given, size_t given_count);
 
+/* Answers that are given together if their addresses come together: the files are then looked at once for all of them. */
+enum { MOST_TOGETHER = 64 };
+
 /* Takes the next addresses: waits for one, and takes the others that are there already, up to `most`. Gives their count, 0
  * behind the last. Ends the program with FAILED at a line that is no address, once those before it were taken. */
 size_t next_addresses(struct addresses *addresses, uint64_t *taken, size_t most);

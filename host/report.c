@@ -342,6 +342,26 @@ void add_count(const char *name, uint64_t count, const char *word)
         printf(", %" PRIu64 " %s%s", count, word, count == 1 ? "" : "s");
 }
 
+void add_text(const char *name, const char *text)
+{
+    if (json) {
+        put_name(name);
+        put_json_text(text);
+    } else {
+        printf(", %s", text);
+    }
+}
+
+void add_zeros(bool zeros)
+{
+    if (json) {
+        put_name("zeros");
+        fputs(zeros ? "true" : "false", stdout);
+    } else if (zeros) {
+        printf(", with bytes of a %s", glint_words(GLINT_ZEROS));
+    }
+}
+
 void begin_headers(uint64_t image_length)
 {
     if (!json)

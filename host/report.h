@@ -33,6 +33,11 @@ void begin_range(uint64_t start, uint64_t last);
 /* A value in hex and a count, by the name in JSON and in words; a count's words are those of one. */
 void add_value(const char *name, const char *words, uint64_t value);
 void add_count(const char *name, uint64_t count, const char *word);
+
+/* A text of the program's own, and whether bytes came from a page of zeros, which is marked in words. */
+void add_text(const char *name, const char *text);
+void add_zeros(bool zeros);
+
 /* Pool headers, an outermost item that is handed on part by part: rows of a hex dump and, behind the last, the item's line;
  * or offsets in JSON. The offsets of a part count from its start. */
 enum { POOL_HEADER_BYTES = 8 };

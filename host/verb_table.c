@@ -5,6 +5,7 @@
 #include "fail.h"
 #include "pool_verb.h"
 #include "sheet_verb.h"
+#include "time_verb.h"
 
 #include <string.h>
 
@@ -30,6 +31,11 @@ const struct verb verbs[] = {
      "A line comes before each stretch of bytes that lead to one place, and on from there, or are all of pages of zeros.\n"
      "A refused read names the first address that is refused.\n",
      FILES_OF_CASE, 2, 2, NO_PAGEFILE | OUTPUT, read_verb},
+    {"time", "CASE [ADDRESS...]", "the time at each address, in UTC",
+     "The 8 bytes from each address on are a FILETIME: ticks of 100 ns since 1 January 1601 UTC, lowest byte first. Shown\n"
+     "are whole seconds, the ticks left over, and the date and time in UTC. A time of zero is refused, as is one of 2^63\n"
+     "ticks or more.\n",
+     FILES_OF_CASE, 0, ANY_COUNT, NO_PAGEFILE, time_verb},
     {"map", "CASE START PAGES", "the map of a range of pages",
      "START is a multiple of 4,096, PAGES is 1 to 1,048,576. Shown are the map's length and bytes.\n",
      FILES_OF_CASE, 2, 2, NO_PAGEFILE | OUTPUT, map_verb},

@@ -17,9 +17,6 @@
 #include <stdlib.h>
 #include <string.h>
 
-/* Answers that are given together if their addresses come together: the files are then looked at once for all of them. */
-enum { MOST_TOGETHER = 64 };
-
 static int status_of(uint64_t number)
 {
     return is_refusal(number) ? REFUSED : ANSWERED;

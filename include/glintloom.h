@@ -105,7 +105,7 @@ enum {
 #define GLINT_MAP_BYTES ((size_t)10 + (size_t)8 * GLINT_MAP_PAGES)
 
 /* A refusal by 11 or 18 hands back the position of the number at fault: the byte of the sheet or map, counted from its start,
- * at which that number begins. Each record says in which field; glint_part has none for it. */
+ * at which that number begins. Each record says in which field; glint_part and glint_time_answer have none for it. */
 
 /* number: 1 or 2 (then offset is the addressed byte's in the image or pagefile), 3, or a refusal (offset is the position for
  * 11 and 18, and 0 for 3 and all other refusals); entries: page table and prototype entries read, again if read again, at

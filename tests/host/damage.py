@@ -86,8 +86,8 @@ class Damage:
                 self.met[self.paths[place_in_case].name] += 1
         for path, content in zip(self.paths, case):
             path.write_bytes(content)
-        verbs = (self.case, self.resolve, self.page, self.read, self.map, self.lookup, self.processor_block, self.list, self.pool)
-        verb, fault = self.chance.choice(verbs), self.library.resolve(case, 0)[:2]
+        verbs = (self.case, self.resolve, self.page, self.read, self.time, self.map, self.lookup, self.processor_block, self.list)
+        verb, fault = self.chance.choice((*verbs, self.pool)), self.library.resolve(case, 0)[:2]
         if fault[0] in CASE_FAULTS and verb not in (self.lookup, self.case, self.pool):
             self.refused_case(fault)
         else:
@@ -96,7 +96,7 @@ class Damage:
     def refused_case(self, fault):
         """Whatever is asked, and if nothing is, the case is refused once."""
         numbers = [self.address() for _ in range(self.chance.randrange(3))]
-        verb = self.chance.choice(("resolve", "page", ("processor-block", "list", "read")[len(numbers)]))
+        verb = self.chance.choice(("resolve", "page", "time", ("processor-block", "list", "read")[len(numbers)]))
         self.expect((verb, numbers), [place(one) for one in self.run_json(verb, *self.paths, *numbers)], [fault])
 
     def case(self, case):
@@ -132,6 +132,20 @@ class Damage:
             self.expect(("read", address, n), self.library.resolve(case, refused)[0], shown["number"])
             if refused > address:
                 self.expect(("read", address, n), self.library.read(case, address, refused - address)[0], 0)
+
+    def time(self, case):
+        address = self.address()
+        shown = self.run_json("time", *self.paths, address)[0]
+        number, seconds, ticks = self.library.read_time(case, address)
+        read, content, zeros = self.library.read(case, address, 8)
+        answered = (number, bool(zeros), *([seconds, ticks] if number == 0 else []))
+        told = [shown[name] for name in ("seconds", "ticks", "utc") if name in shown]
+        self.expect(("time", address), (shown["number"], shown["zeros"], *told[:2]), answered)
+        self.expect(("time", address), len(told), 3 if number == 0 else 0)
+        if number == 0:
+            self.expect(("time", address), told[0] * 10_000_000 + told[1], int.from_bytes(content, "little"))
+        elif number not in (60, 61):
+            self.expect(("time", address), read, number)
 
     def map(self, case):
         start = self.address() // PAGE * PAGE

@@ -1,5 +1,6 @@
 """What the program is to print."""
 import re
+from datetime import datetime, timedelta
 
 from cases import make_case
 from program import ROOT
@@ -75,6 +76,20 @@ def first_at(address):
 
 def done(asked, rest):
     return f"0x{asked:016X}   0 done, {rest}"
+
+
+def utc(seconds, ticks):
+    """Date and time; Python's years end with 9999, and every 400 years have as many days."""
+    cycles, days = divmod(seconds // 86_400, 146_097)
+    moment = datetime(1601, 1, 1) + timedelta(days=days, seconds=seconds % 86_400)
+    return f"{moment.year + 400 * cycles}-{moment:%m-%d %H:%M:%S}.{ticks:07} UTC"
+
+
+def time_line(address, number, seconds=0, ticks=0, zeros=False):
+    """The line for a time, with the mark of bytes of a page of zeros."""
+    counts = f"{seconds} second{'s' * (seconds != 1)}, {ticks} tick{'s' * (ticks != 1)}"
+    line = place(address, number) if number else done(address, f"{counts}, {utc(seconds, ticks)}")
+    return line + (f", with bytes of a {PLACES[3]}" if zeros else "")
 
 
 def dump(address, content):

@@ -3,26 +3,27 @@ import ctypes
 
 from program import BUILT
 
-U64, SIZE = ctypes.c_uint64, ctypes.c_size_t
+U64, DOUBLE, SIZE = ctypes.c_uint64, ctypes.c_double, ctypes.c_size_t
 
-# Numbers of the record that each call hands back.
+# Fields of the record that each call hands back; a record within it stands by its fields.
 RETURNS = {
-    "glint_resolve": 3,
-    "glint_page": 3,
-    "glint_read": 3,
-    "glint_map": 2,
-    "glint_lookup": 2,
-    "glint_processor_block": 3,
-    "glint_process_list": 2,
-    "glint_case": 3,
-    "glint_image_length": 2,
-    "glint_pool_headers": 2,
-    "glint_write_sheet": 2,
+    "glint_resolve": [U64] * 3,
+    "glint_page": [U64] * 3,
+    "glint_read": [U64] * 3,
+    "glint_read_time": [U64, DOUBLE, DOUBLE],
+    "glint_map": [U64] * 2,
+    "glint_lookup": [U64] * 2,
+    "glint_processor_block": [U64] * 3,
+    "glint_process_list": [U64] * 2,
+    "glint_case": [U64] * 3,
+    "glint_image_length": [U64] * 2,
+    "glint_pool_headers": [U64] * 2,
+    "glint_write_sheet": [U64] * 2,
 }
 
 
-def record(numbers):
-    return type(f"Record{numbers}", (ctypes.Structure,), {"_fields_": [(f"field{k}", U64) for k in range(numbers)]})
+def record(kinds):
+    return type("Record", (ctypes.Structure,), {"_fields_": [(f"field{k}", kind) for k, kind in enumerate(kinds)]})
 
 
 def slices(*parts):
@@ -38,11 +39,11 @@ def written(number, length, room):
 class Library:
     def __init__(self):
         self.loaded = ctypes.CDLL(str(BUILT / "libglintloom.so"))
-        for name, numbers in RETURNS.items():
-            getattr(self.loaded, name).restype = record(numbers)
+        for name, kinds in RETURNS.items():
+            getattr(self.loaded, name).restype = record(kinds)
 
     def call(self, name, parts, *numbers):
-        """The record's numbers; what follows the slices is a number or a buffer."""
+        """The record's fields; what follows the slices is a number or a buffer."""
         rest = [U64(number) if isinstance(number, int) else number for number in numbers]
         answer = getattr(self.loaded, name)(*slices(*parts), *rest)
         return tuple(getattr(answer, field) for field, _ in answer._fields_)
@@ -58,6 +59,10 @@ class Library:
         room = (ctypes.c_uint8 * n)()
         number, length, zeros = self.call("glint_read", case, address, n, room, SIZE(n))
         return number, bytes(written(number, length, room)), zeros
+
+    def read_time(self, case, address):
+        """Number, seconds and ticks."""
+        return self.call("glint_read_time", case, address)
 
     def map(self, case, start, pages):
         """Number and bytes."""

@@ -6,11 +6,11 @@ from collections import Counter
 
 from cases import make_case
 from damage import SANITIZER_WORDS, Fault, damaged
-from expected import REFUSALS, place
+from expected import REFUSALS, place, time_line
 from library import Library
 from program import ANSWERED, FAILED, REFUSED, run
 
-VERBS = ("sheet", "case", "resolve", "page", "read", "map", "lookup", "processor-block", "list", "pool", "explain", "help")
+VERBS = ("sheet", "case", "resolve", "page", "read", "time", "map", "lookup", "processor-block", "list", "pool", "explain", "help")
 OPTIONS = ("-o", "--json", "--no-pagefile", "--all", "--pages", "--", "-h", "--help", "--version", "-", "-oout", "--json=1")
 NUMBERS = ("0", "1", "0x", "-1", "00", "0x1000", "4096", "18446744073709551615", "18446744073709551616", "fffff8a0`02bd2ed8")
 RANGES = ("0x1000+0x9E000", "0x1000-0x9EFFF", "4096-8192", "1+1", "0+0", "+", "-", "0x1000+", "0x1000-0xFFF", "0-0xFFFFFFFFFFFFFFFF")
@@ -116,12 +116,16 @@ class Misuse:
         if verb == "lookup":
             number, offset = self.library.lookup(self.content[3], address)
             return number, place(address, number, offset)
+        if verb == "time":
+            number, seconds, ticks = self.library.read_time(self.content[:3], address)
+            zeros = self.library.read(self.content[:3], address, 8)[2]
+            return number, time_line(address, number, int(seconds), int(ticks), zeros)
         number, offset, entries = self.library.resolve(self.content[:3], address)
         return number, place(address, number, offset, entries)
 
     def input(self):
         """Addresses on standard input: those before the first line that is none are answered."""
-        verb = self.chance.choice(("resolve", "lookup", "page"))
+        verb = self.chance.choice(("resolve", "lookup", "page", "time"))
         files = self.paths[3:] if verb == "lookup" else self.paths[:3]
         addresses = [self.number() for _ in range(self.chance.choice((0, 1, 3, 30)))]
         lines = [self.line(address).encode() for address in addresses]

@@ -9,6 +9,7 @@ VERBS = (
     ["resolve", "0xB35000", "0xB38000"],
     ["page", "0xB35000"],
     ["read", "0xB35000", "16"],
+    ["time", "0xB35110", "0xB38000"],
     ["map", "0xB34000", "16"],
     ["processor-block"],
     ["list", "0xB35000"],

@@ -141,6 +141,7 @@ class Completion(LibraryTest):
     def test_verbs(self):
         self.assertEqual(self.completed("re"), ["resolve", "read"])
         self.assertEqual(self.completed("--json", "pro"), ["processor-block"])
+        self.assertEqual(self.completed("ti"), ["time"])
         self.assertLessEqual({"resolve", "page", "read", "map", "lookup", "list", "explain", "help"}, set(self.completed("")))
 
     def test_options(self):

@@ -11,6 +11,7 @@ VERBS = {
     "resolve": {"--no-pagefile"},
     "page": {"--no-pagefile", "-o"},
     "read": {"--no-pagefile", "-o"},
+    "time": {"--no-pagefile"},
     "map": {"--no-pagefile", "-o"},
     "lookup": set(),
     "processor-block": {"--no-pagefile", "--all"},

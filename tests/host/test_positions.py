@@ -170,7 +170,7 @@ class Maps(Positions):
 
 
 class Exports(HostTest):
-    """The offset or the length of each record is the position; no buffer changes, and all else is 0."""
+    """The offset or the length of each record that has one is the position; no buffer changes, and all else is 0."""
 
     def test_every_call(self):
         library, room = Library(), (ctypes.c_uint64 * 8)(*[7] * 8)
@@ -182,6 +182,7 @@ class Exports(HostTest):
                 ("glint_resolve", [0xB10000], (number, position, 0)),
                 ("glint_page", [0xB10000], (0, 0, 0)),
                 ("glint_read", [0xB10000, 8, *buffer], (number, position, 0)),
+                ("glint_read_time", [0xB10000], (number, 0, 0)),
                 ("glint_map", [0xB10000, 1, *buffer], (number, position)),
                 ("glint_processor_block", [0], (number, position, 0)),
                 ("glint_process_list", [0xB10000, *buffer], (number, position)),

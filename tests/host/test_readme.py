@@ -26,7 +26,7 @@ class Example(HostTest):
         shown = re.findall(r"^    (.*)$", section(README, "## The main job", "## "), re.M)
         printed = subprocess.run([ROOT / "example"], capture_output=True, text=True, check=True).stdout
         self.assertEqual(["./example", *printed.splitlines()], shown)
-        self.assertEqual(printed.count("$ glintloom "), 6)
+        self.assertEqual(printed.count("$ glintloom "), 7)
 
 
 class ByteByByte(HostTest):

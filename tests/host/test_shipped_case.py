@@ -45,7 +45,11 @@ class ShippedCase(HostTest):
         self.assertEqual(self.library.read(self.case, make_case.RECORD, len(content)), (0, content, 0))
         ticks, moment = int.from_bytes(content[-8:], "little"), make_case.RECORD_TIME
         self.assertEqual(ticks, (moment.timestamp() + 11_644_473_600) * 10_000_000)
-        self.assertIn(f"0x{ticks:016X} is {moment:%d %B %Y, %H:%M:%S} UTC", (ROOT / "example").read_text())
+        address = make_case.RECORD + len(content) - 8
+        self.assertEqual(self.library.read_time(self.case, address), (0, ticks / 10_000_000, 0))
+        shown = f"glintloom time sheet image pagefile 0x{address:X}\n    0x{address:016X}   0 done, "
+        shown += f"{ticks // 10_000_000} seconds, 0 ticks, {moment:%Y-%m-%d %H:%M:%S}.0000000 UTC\n"
+        self.assertIn(shown, (ROOT / "README.md").read_text())
 
     def test_page_in_the_compressed_store(self):
         """Its entry is the record's but for bit 22; no byte of the pagefile is shown for it."""
@@ -61,3 +65,4 @@ class ShippedCase(HostTest):
     def test_record_without_the_pagefile(self):
         for pagefile in (b"", bytes(PAGE)):
             self.assertEqual(self.library.read([*self.case[:2], pagefile], make_case.RECORD, 8), (27, b"", 0))
+            self.assertEqual(self.library.read_time([*self.case[:2], pagefile], make_case.RECORD + 16), (27, 0, 0))

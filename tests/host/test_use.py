@@ -26,6 +26,7 @@ CASE_VERBS = {
     "resolve": ["0"],
     "page": ["0"],
     "read": ["0", "1"],
+    "time": ["0"],
     "map": ["0", "1"],
     "processor-block": [],
     "list": ["0"],
@@ -62,6 +63,7 @@ class WrongUse(HostTest):
             ["case", *self.case[:2]],
             ["resolve", "--no-pagefile", self.case[0]],
             ["page", *self.case[:2]],
+            ["time", *self.case[:2]],
             ["read", *self.case],
             ["read", *self.case, "0"],
             ["map", *self.case, "0"],
@@ -187,6 +189,7 @@ class StandardOutput(HostTest):
             ["resolve", "--json", *self.case, "0xB38000"],
             ["page", *self.case, "0x777B0000"],
             ["read", *self.case, "0x777B0000", "0x1000"],
+            ["time", *self.case, "0x777B0000"],
             ["map", *self.case, "0xB34000", "1"],
             ["processor-block", *self.case],
             ["list", *self.case, "0"],
@@ -326,5 +329,8 @@ class ManualPage(HostTest):
     def test_names_every_verb_and_option(self):
         text = (ROOT / "host" / "glintloom.1").read_text()
         options = ("--json", "--no-pagefile", "--all", "--pages", "-o", "--help", "--version")
-        for word in (*CASE_VERBS, "sheet", "lookup", "pool", "explain", "help", *options):
-            self.assertIn(word.replace("-", "\\-"), text)
+        for verb in (*CASE_VERBS, "sheet", "lookup", "pool", "explain", "help"):
+            self.assertIn(f"\n\\fBglintloom {verb}\\fR".replace("-", "\\-"), text)
+            self.assertIn(f"\n.B {verb}\n".replace("-", "\\-"), text)
+        for option in options:
+            self.assertIn(option.replace("-", "\\-"), text)

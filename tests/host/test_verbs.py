@@ -80,6 +80,8 @@ class Resolve(HostTest):
             ["page", "0xB35000", "-o", out],
             ["read", "0xB35000", "0xFFFFFFFFFFFFFFFF"],
             ["read", "0xB35000", "0", "-o", out],
+            ["time"],
+            ["time", "0xB35110"],
             ["map", "0xB35001", "0", "-o", out],
             ["processor-block", "--all"],
             ["list", "0xB35001"],
@@ -339,7 +341,7 @@ class ExplainAndHelp(HostTest):
         self.assertEqual(len(texts), len(WORDS))
 
     def test_numbers_that_no_answer_has(self):
-        for number in (4, 9, 19, 30, 32, 42, 46, 54, 56, 99, 2**32 + 22, 2**64 - 1):
+        for number in (4, 9, 19, 30, 32, 42, 46, 54, 56, 59, 62, 99, 2**32 + 22, 2**64 - 1):
             self.fails(["explain", number], f"no answer has the number {number}")
         self.fails(["explain", 22, 99], "99")
 
@@ -347,8 +349,8 @@ class ExplainAndHelp(HostTest):
         for word in ("help", "--help", "-h"):
             shown = run(word)
             self.assertEqual((shown.returncode, shown.stderr), (ANSWERED, b""))
-            verbs = ("sheet", "resolve", "page", "read", "map", "lookup", "processor-block", "list", "pool", "explain", "help")
-            for verb in verbs:
+            verbs = ("sheet", "case", "resolve", "page", "read", "time", "map", "lookup", "processor-block", "list", "pool")
+            for verb in (*verbs, "explain", "help"):
                 self.assertIn(f"\nglintloom {verb} ", shown.stdout.decode())
             self.assertIn("\nExit status: 0 answered; 1 refused", shown.stdout.decode())
 
