@@ -28,7 +28,7 @@ extern "C" {
 /* The version of this header. MAJOR, which the shared library's name carries, moves where a program that was compiled with
  * an older header could no longer run; MINOR where only something was added; PATCH where the header stays. */
 #define GLINT_VERSION_MAJOR 2
-#define GLINT_VERSION_MINOR 0
+#define GLINT_VERSION_MINOR 1
 #define GLINT_VERSION_PATCH 0
 
 /* What the number of an answer is about. */
