@@ -27,7 +27,7 @@ static unsigned days_of_month(uint64_t year, unsigned month)
     return month == 2 && is_leap_year(year) ? 29 : days[month - 1];
 }
 
-/* The date so many days after the first. Cycles of 400 years have equal lengths, so they are taken at once. */
+/* The date that is `days` after the first. Cycles of 400 years have equal lengths, so they are taken at once. */
 static struct date date_after(uint64_t days)
 {
     struct date date = {FIRST_YEAR + days / CYCLE_DAYS * CYCLE_YEARS, 1, 1};

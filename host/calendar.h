@@ -6,7 +6,7 @@
 
 enum { UTC_ROOM = 64 };
 
-/* The moment so many whole seconds and ticks of 100 ns after the start of 1601, as 1970-01-01 00:00:00.0000000 UTC. */
+/* The moment that is `seconds` and `ticks` of 100 ns after the start of 1601, as 1970-01-01 00:00:00.0000000 UTC. */
 void put_utc(uint64_t seconds, uint64_t ticks, char text[UTC_ROOM]);
 
 #endif
