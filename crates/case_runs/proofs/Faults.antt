@@ -1,22 +1,20 @@
 -- A sheet's own faults have the numbers 10 to 14 and 18: each step of reading refuses with one of them.
-use mathlib.Core.Path.{_≡_, refl, sym, ap, _∙_}
+use mathlib.Core.Path.{_≡_, refl}
 use mathlib.Core.Logic.{_⊎_, inl, inr}
 use mathlib.Core.List.{List, [], _∷_}
 use mathlib.Core.Bool.{Bool, true, false}
-use Prim.Native.Nat.{ℕ, zero, suc, _+_, _-_, _*_, _^_, _≤_}
+use Prim.Native.Nat.{ℕ, zero, suc, _+_, _-_, _^_, _≤_}
 use native.Mathlib.Omega.{arith}
 use lib.Dec.{ltb, leb, eqb}
 use lib.ListN.{length, drop}
 use Rattle.base.specs.Notation.{if_then_else_, within}
 use Rattle.base.specs.Refusal.{refusalNumber, unplaced}
 use Rattle.base.specs.declared.Refusal.{Refusal}
-use Rattle.base.specs.declared.Refusal.the-variants.{Truncated, NumberTooLong, NumberNotShortest, OutOfLimits, BadRun, TrailingBytes}
-use Rattle.varint.specs.Reader.{Read, got, refused, Reader, after, need, ended}
+use Rattle.base.specs.declared.Refusal.the-variants.{NumberNotShortest, OutOfLimits, BadRun, TrailingBytes}
+use Rattle.varint.specs.Reader.{Read, got, refused, Reader, after, need}
 use Rattle.varint.specs.Groups.{under, dec, begunAt, decode, number}
-use Rattle.varint.specs.Edition.{EditionFields, edition, editionFields}
-use Rattle.sheet.specs.Sheet.{header, runFrom, runsFrom, endOf, runPages, ownFields}
-use Rattle.sheet.specs.declared.Header.{Header}
-use Rattle.sheet.specs.declared.Run.{Run}
+use Rattle.varint.specs.Edition.{edition, editionFields}
+use Rattle.sheet.specs.Sheet.{header, runFrom, runsFrom, endOf, ownFields}
 use Rattle.case_runs.specs.Call.{imageBytes}
 
 -- 10 to 14, or 18

@@ -1,5 +1,5 @@
 -- A map refused by 11 or 18 at a position: the number that begins there is refused so, and every number before it was read.
-use mathlib.Core.Path.{_≡_, refl}
+use mathlib.Core.Path.{_≡_}
 use mathlib.Core.Bool.{Bool, true, false}
 use mathlib.Core.List.{List, [], _∷_}
 use Prim.Native.Nat.{ℕ, zero, suc, _-_}
@@ -10,13 +10,13 @@ use Rattle.base.specs.Notation.{if_then_else_}
 use Rattle.base.specs.Codes.{isCode}
 use Rattle.base.specs.declared.Fault.{Fault}
 use Rattle.base.specs.declared.Refusal.the-variants.{OutOfLimits, BadExtent, TrailingBytes}
-use Rattle.varint.specs.Reader.{Read, got, refused, Reader, after, _>>=_, return}
+use Rattle.varint.specs.Reader.{refused, Reader, after, _>>=_, return}
 use Rattle.varint.specs.Groups.{number}
 use Rattle.varint.specs.Edition.{editionFields}
 use Rattle.varint.proofs.Placed.{Blamed, AtFault, Placed, here, then-placed, need-placed, not-blamed, number-placed, fields-placed}
 use Rattle.entry.specs.Pages.{virtualPage}
 use Rattle.map_format.specs.Extents.{hasFilePage, extent, noExtent}
-use Rattle.map_format.specs.Reading.{inHalf, headerFields, firstFrom, sound, extentFrom, extentsFrom, Map, mapFields}
+use Rattle.map_format.specs.Reading.{inHalf, headerFields, firstFrom, sound, extentFrom, extentsFrom, mapFields}
 use Rattle.map_format.specs.declared.Extent.{Extent}
 
 header-placed : (s : List ℕ) (at : ℕ) → Placed s at (headerFields s at)

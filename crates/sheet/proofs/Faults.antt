@@ -1,5 +1,5 @@
 -- A sheet refused by 11 or 18 at a position: the number that begins there is refused so, and every number before it was read.
-use mathlib.Core.Path.{_≡_, refl}
+use mathlib.Core.Path.{_≡_}
 use mathlib.Core.List.{List, []}
 use Prim.Native.Nat.{ℕ, zero, suc, _+_, _*_, _%_, _^_}
 use native.Mathlib.Omega.{arith}
@@ -7,13 +7,12 @@ use lib.Dec.{ltb, leb, eqb}
 use lib.ListN.{length}
 use Rattle.base.specs.Notation.{within}
 use Rattle.base.specs.declared.Fault.{Fault}
-use Rattle.base.specs.declared.Refusal.{Refusal}
 use Rattle.base.specs.declared.Refusal.the-variants.{OutOfLimits, BadRun, TrailingBytes, ImageLengthDiffers, PagefileNotWholePages}
-use Rattle.varint.specs.Reader.{Read, got, refused, after}
+use Rattle.varint.specs.Reader.{refused}
 use Rattle.varint.specs.Groups.{number}
 use Rattle.varint.specs.Edition.{editionFields}
 use Rattle.varint.proofs.Placed.{Blamed, AtFault, Placed, here, then-placed, need-placed, not-blamed, number-placed, fields-placed}
-use Rattle.sheet.specs.Sheet.{header, runFrom, runsFrom, endOf, runPages, Sheet, ownFields, sheetFields, sheetOf}
+use Rattle.sheet.specs.Sheet.{header, runFrom, runsFrom, endOf, runPages, ownFields, sheetFields, sheetOf}
 
 header-placed : (s : List ℕ) (at : ℕ) → Placed s at (header s at)
 unfolding header

@@ -3,11 +3,10 @@ use mathlib.Core.Path.{_≡_, refl, sym, ap, _∙_}
 use mathlib.Core.Logic.{_⊎_, inl, inr}
 use mathlib.Core.Bool.{Bool, true, false}
 use mathlib.Core.List.{List, [], _∷_}
-use Prim.Native.Nat.{ℕ, zero, suc, _+_, _-_, _^_, _<_, _≤_}
+use Prim.Native.Nat.{ℕ, zero, suc, _^_, _<_}
 use native.Mathlib.Omega.{arith}
 use lib.Dec.{ltb, eqb}
 use lib.ListN.{length, drop, length-drop}
-use borrow.Author.Tests.{lt-ltb}
 use Rattle.base.specs.Notation.{if_then_else_}
 use Rattle.base.specs.Refusal.{refusalNumber, unplaced}
 use Rattle.base.specs.declared.Fault.{Fault}
@@ -15,7 +14,7 @@ use Rattle.base.specs.declared.Refusal.{Refusal}
 use Rattle.base.specs.declared.Refusal.the-variants.{Truncated, OutOfLimits}
 use Rattle.varint.specs.Reader.{Read, got, refused, Reader, after, need}
 use Rattle.varint.specs.Groups.{dec, begunAt, decode, number}
-use Rattle.varint.specs.Edition.{EditionFields, edition, editionFields}
+use Rattle.varint.specs.Edition.{edition, editionFields}
 
 -- the numbers that show a position
 abbrev pub Blamed : Refusal → Type 0
