@@ -1,5 +1,8 @@
 //! Pseudo-random numbers, the same at each run.
 
+// Each test uses its own part.
+#![allow(dead_code)]
+
 pub struct Xorshift {
     pub state: u64,
 }
