@@ -38,34 +38,50 @@ member-stretch c low (suc n) = rw (member-stretch c (suc low) n) (go (test c low
     go (above h) (below u) (above t) =
         rw (ne-eqb c low (λ e. omega (arith, e)), le-leb (suc low) c (omega arith), le-ltb c (suc low + n) t, le-leb low c h, le-ltb c (low + suc n) (omega arith))
 
--- 1 to 3, 21 to 29, 31
-stretches : (c : ℕ) → isCode c ≡ ((leb 1 c && ltb c 4) || ((leb 21 c && ltb c 30) || (eqb c 31 || false)))
+-- the codes above the two stretches
+abbrev singles : List ℕ
+singles = 31 ∷ 34 ∷ []
+
+-- 1 to 3, 21 to 29, and the others one by one
+stretches : (c : ℕ) → isCode c ≡ ((leb 1 c && ltb c 4) || ((leb 21 c && ltb c 30) || member c singles))
 unfolding isCode
 stretches c =
-    member-append c (stretch 1 3) (stretch 21 9 ++ 31 ∷ [])
-    ∙ rw (member-append c (stretch 21 9) (31 ∷ []), member-stretch c 1 3, member-stretch c 21 9)
+    member-append c (stretch 1 3) (stretch 21 9 ++ singles)
+    ∙ rw (member-append c (stretch 21 9) singles, member-stretch c 1 3, member-stretch c 21 9)
+
+-- 30 and below is none of the others, nor is 35 and above
+below-singles : (c : ℕ) → c < 31 → member c singles ≡ false
+below-singles c h = rw (ne-eqb c 31 (λ e. omega (arith, e)), ne-eqb c 34 (λ e. omega (arith, e)))
+
+above-singles : (c : ℕ) → 34 < c → member c singles ≡ false
+above-singles c h = rw (ne-eqb c 31 (λ e. omega (arith, e)), ne-eqb c 34 (λ e. omega (arith, e)))
 
 module _ (c : ℕ) where
   pub code-zero : c < 1 → false ≡ isCode c
-  code-zero h = sym (stretches c ∙ rw (lt-leb 1 c h, lt-leb 21 c (omega arith), ne-eqb c 31 (λ e. omega (arith, e))))
+  code-zero h = sym (stretches c ∙ rw (lt-leb 1 c h, lt-leb 21 c (omega arith), below-singles c (omega arith)))
 
   pub code-found : 1 ≤ c → c ≤ 3 → true ≡ isCode c
   code-found h k = sym (stretches c ∙ rw (le-leb 1 c h, lt-ltb c 4 (omega arith)))
 
   pub code-between : 3 < c → c < 21 → false ≡ isCode c
   code-between h k =
-      sym (stretches c ∙ rw (le-leb 1 c (omega arith), le-ltb c 4 (omega arith), lt-leb 21 c k, ne-eqb c 31 (λ e. omega (arith, e))))
+      sym (stretches c ∙ rw (le-leb 1 c (omega arith), le-ltb c 4 (omega arith), lt-leb 21 c k, below-singles c (omega arith)))
 
   pub code-refused : 21 ≤ c → c ≤ 29 → true ≡ isCode c
   code-refused h k = sym (stretches c ∙ rw (le-leb 1 c (omega arith), le-ltb c 4 (omega arith), le-leb 21 c h, lt-ltb c 30 (omega arith)))
 
-  pub code-single : 29 < c → eqb c 31 ≡ isCode c
-  code-single h =
-      sym (stretches c ∙ rw (le-leb 1 c (omega arith), le-ltb c 4 (omega arith), le-leb 21 c (omega arith), le-ltb c 30 (omega arith)) (go (eqb c 31)))
+  pub code-single : 29 < c → member c singles ≡ isCode c
+  code-single h = sym (stretches c ∙ rw (le-leb 1 c (omega arith), le-ltb c 4 (omega arith), le-leb 21 c (omega arith), le-ltb c 30 (omega arith)))
+
+  pub code-first-single : c ≡ 31 → true ≡ isCode c
+  code-first-single h = rw (eq-eqb c 31 h) at (code-single (omega (arith, h)))
+
+  pub code-last-single : 29 < c → (c ≡ 31 → ⊥) → eqb c 34 ≡ isCode c
+  code-last-single h n = sym (or-false (eqb c 34)) ∙ (rw (ne-eqb c 31 n) at (code-single h))
     where
-      go : (b : Bool) → (b || false) ≡ b
-      go true = refl
-      go false = refl
+      or-false : (b : Bool) → (b || false) ≡ b
+      or-false true = refl
+      or-false false = refl
 
   -- it takes one group
   pub code-small : isCode c ≡ true → c < 64
@@ -74,5 +90,5 @@ module _ (c : ℕ) where
       go : Test c 64 → c < 64
       go (below l) = l
       go (above l) =
-          let no : false ≡ true = sym (ne-eqb c 31 (λ e. omega (arith, e))) ∙ code-single (omega arith) ∙ h in
+          let no : false ≡ true = sym (above-singles c (omega arith)) ∙ code-single (omega arith) ∙ h in
           absurd (let z : _≡_ {A = ℕ} 0 1 = cc in omega arith)

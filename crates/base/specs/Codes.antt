@@ -15,9 +15,10 @@ use Rattle.base.specs.declared.Refusal.the-variants.{
   PrototypeChainTooLong,
   PrototypeUnaligned,
   PageInStore,
+  StateNotFollowed,
 }
 
--- image, pagefile, page of zeros, and each refusal that a canonical address can get
+-- image, pagefile, page of zeros, and each refusal that an address in the address space can get
 abbrev pub codes : List ℕ
 codes =
     1
@@ -33,6 +34,7 @@ codes =
     ∷ refusalNumber PrototypeChainTooLong
     ∷ refusalNumber PrototypeUnaligned
     ∷ refusalNumber PageInStore
+    ∷ refusalNumber StateNotFollowed
     ∷ []
 
 abbrev pub member : ℕ → List ℕ → Bool
