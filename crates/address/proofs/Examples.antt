@@ -5,7 +5,7 @@ use Prim.Native.Nat.{ℕ}
 use Rattle.base.specs.Example.{Example, same, every, Hold}
 use Rattle.varint.specs.Reader.{Read, got, refused}
 use Rattle.sheet.specs.Sheet.{Sheet}
-use Rattle.entry.specs.Addresses.{reachable}
+use Rattle.entry.proofs.Addresses.{p4-unreachable}
 use Rattle.walk.specs.Walk.{resolveOf}
 use Rattle.case.specs.Case.{Case, checkOf, byCheck, inCase}
 use Rattle.case.specs.Answer.{answerOf, faultAnswer}
@@ -27,11 +27,11 @@ p4 =
     ∷ []
 
 not-canonical : (c : Case) → Accepted c → addressOf c 0x0000800000000000 ≡ answer 20 0 0
-unfolding Accepted addressOf resolveOf reachable
+unfolding Accepted addressOf resolveOf
 not-canonical c = go (checkOf c)
   where
     go : (d : Read Sheet) → byCheck c (λ f. ⊥) (λ w. Unit {0}) d → byCheck c faultAnswer (λ w. answerOf (resolveOf 3 w 0x0000800000000000)) d ≡ answer 20 0 0
-    go (got s at) h = refl
+    go (got s at) h = rw (p4-unreachable (s .space .mode))
     go (refused r) h = absurd h
 
 pub p4-holds : Hold p4

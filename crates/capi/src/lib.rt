@@ -138,11 +138,13 @@ pub extern "C" fn glint_pool_headers(image: &[u8], out: &mut [u64]) -> Written
 #[no_mangle]
 pub extern "C" fn glint_write_sheet(
     directory: u64,
+    mode: u64,
+    place: u64,
     starts: &[u64],
     lengths: &[u64],
     out: &mut [u8],
 ) -> Written
-    ensures { λ r. ⌜ WriteAnswer directory (now (starts .entry)) (now (lengths .entry)) (now (out .entry)) r (now (out .exit)) ⌝ }
+    ensures { λ r. ⌜ WriteAnswer directory mode place (now (starts .entry)) (now (lengths .entry)) (now (out .entry)) r (now (out .exit)) ⌝ }
 {
-    sheet_writer::write_sheet(directory, starts, lengths, out)
+    sheet_writer::write_sheet(directory, mode, place, starts, lengths, out)
 }

@@ -1,5 +1,5 @@
 -- What a caller of `open_case` has: the refusal of the check, or the world of the accepted case.
-use mathlib.Core.Path.{_≡_, refl, sym, ap, _∙_}
+use mathlib.Core.Path.{_≡_, refl, sym, ap, subst, _∙_}
 use mathlib.Core.List.{List}
 use mathlib.Core.Bool.{true}
 use Prim.Native.Nat.{ℕ, zero, suc, _+_, _*_, _≤_}
@@ -8,10 +8,11 @@ use lib.ListN.{length, take}
 use lib.Seq.{sets, sets-eq, take-at}
 use Rattle.base.specs.declared.Fault.{Fault}
 use Rattle.varint.specs.Reader.{Read, got, refused}
-use Rattle.varint.specs.Edition.{editionFields}
-use Rattle.sheet.specs.Sheet.{Sheet, sheetOf}
+use Rattle.sheet.specs.Sheet.{Sheet, header, sheetOf}
 use Rattle.sheet.specs.Inner.{fewRuns}
 use Rattle.sheet.specs.Call.{rowsFrom, RowsLaid, sheetRead, SheetAnswer}
+use Rattle.entry.specs.declared.PagingMode.{PagingMode}
+use Rattle.entry.specs.declared.PagingMode.the-variants.{FourLevel, Plain, Pae}
 use Rattle.sheet.specs.declared.AddressSpace.{AddressSpace}
 use Rattle.sheet.specs.declared.Header.{Header}
 use Rattle.sheet.specs.declared.Run.{Run}
@@ -24,9 +25,9 @@ use Rattle.walk.specs.Walk.{World, worldOf, resolveOf, Grounded}
 use Rattle.walk.specs.Rows.{rowsWorld}
 use Rattle.walk.proofs.Ground.{Sound, grounded}
 use Rattle.walk.proofs.CaseWorld.{same-world, sound-case}
-use Rattle.case.specs.Case.{Case, checkOf}
+use Rattle.case.specs.Case.{Case, checkOf, byCheck, servedIn, served}
 use Rattle.case.specs.Answer.{GroundedAt}
-use Rattle.case.specs.Inner.{numbersOf, rowNumbers, openedOf, Opens}
+use Rattle.case.specs.Inner.{numbersOf, rowNumbers, openedOf, servedOf, Opens}
 use Rattle.case.specs.declared.Opened.{Opened}
 use Rattle.case.specs.declared.Opened.the-variants.{Ready, Refused}
 
@@ -42,8 +43,8 @@ few-rows bytes image pagefile v h e f = go (sheetOf bytes image pagefile) refl (
         omega (arith, accepted-laws bytes image pagefile s at g .most)
     go (refused r) g k = absurd (let z : _≡_ {A = ℕ} 0 1 = cc in omega arith)
 
-pub sheet-accepted : (c : Case) (old : List ℕ) (v : SheetRead) (new : List ℕ) (h : Header) → SheetAnswer (checkOf c) old v new → v ≡ sheet-read.Accepted h → Opens c old (Ready (h .space) (3 * h .count)) new
-sheet-accepted c old v new h q f = record { same = go (checkOf c) (sym (q .same) ∙ f); rows = q .rows }
+pub sheet-accepted : (c : Case) {d : Read Sheet} (old : List ℕ) (v : SheetRead) (new : List ℕ) (h : Header) → SheetAnswer d old v new → v ≡ sheet-read.Accepted h → Opens c d old (Ready (h .space) (3 * h .count)) new
+sheet-accepted c {d} old v new h q f = record { same = go d (sym (q .same) ∙ f); rows = q .rows }
   where
     go : (d : Read Sheet) → sheetRead d ≡ sheet-read.Accepted h → Ready (h .space) (3 * h .count) ≡ openedOf d
     go (got s at) k =
@@ -51,8 +52,8 @@ sheet-accepted c old v new h q f = record { same = go (checkOf c) (sym (q .same)
         ap (λ (x : Header). Ready (x .space) (3 * x .count)) (sym own)
     go (refused r) k = absurd (let z : _≡_ {A = ℕ} 0 1 = cc in omega arith)
 
-pub sheet-refused : (c : Case) (old : List ℕ) (v : SheetRead) (new : List ℕ) (r : Fault) → SheetAnswer (checkOf c) old v new → v ≡ sheet-read.Refused r → Opens c old (Refused r) new
-sheet-refused c old v new r q f = record { same = go (checkOf c) (sym (q .same) ∙ f); rows = q .rows }
+pub sheet-refused : (c : Case) {d : Read Sheet} (old : List ℕ) (v : SheetRead) (new : List ℕ) (r : Fault) → SheetAnswer d old v new → v ≡ sheet-read.Refused r → Opens c d old (Refused r) new
+sheet-refused c {d} old v new r q f = record { same = go d (sym (q .same) ∙ f); rows = q .rows }
   where
     go : (d : Read Sheet) → sheetRead d ≡ sheet-read.Refused r → Refused r ≡ openedOf d
     go (got s at) k = absurd (let z : _≡_ {A = ℕ} 0 1 = cc in omega arith)
@@ -60,8 +61,8 @@ sheet-refused c old v new r q f = record { same = go (checkOf c) (sym (q .same) 
 
 -- ---- its callers
 
-pub refused-case : (c : Case) (old : List ℕ) (v : Opened) (new : List ℕ) (r : Fault) → Opens c old v new → v ≡ Refused r → checkOf c ≡ refused r
-refused-case c old v new r q f = go (checkOf c) (sym (q .same) ∙ f)
+pub refused-case : (c : Case) {d : Read Sheet} (old : List ℕ) (v : Opened) (new : List ℕ) (r : Fault) → Opens c d old v new → v ≡ Refused r → d ≡ refused r
+refused-case c {d} old v new r q f = go d (sym (q .same) ∙ f)
   where
     go : (d : Read Sheet) → openedOf d ≡ Refused r → d ≡ refused r
     go (got s at) k = absurd (let z : _≡_ {A = ℕ} 0 1 = cc in omega arith)
@@ -83,7 +84,7 @@ enough-numbers c = go (checkOf c) refl
     go (refused r) e = omega arith
 
 -- numbers that are enough for a sheet whose count says few runs
-pub enough-for-few : (c : Case) → fewRuns (editionFields (c .sheet) 0) ≡ true → rowNumbers c ≤ 96
+pub enough-for-few : (c : Case) → fewRuns (header (c .sheet) 0) ≡ true → rowNumbers c ≤ 96
 enough-for-few c h = go (checkOf c) refl
   where
     go : (d : Read Sheet) → checkOf c ≡ d → numbersOf d ≤ 96
@@ -108,7 +109,7 @@ pub record Accepted (c : Case) (space : AddressSpace) (n : ℕ) (rows : List ℕ
   pub laws : AcceptedCase (length (c .image)) (length (c .pagefile)) sheet
   pub sound : Sound (worldOf sheet (c .image) (c .pagefile))
 
-pub accepted-case : (c : Case) (old : List ℕ) (v : Opened) (new : List ℕ) (space : AddressSpace) (n : ℕ) → rowNumbers c ≤ length old → Opens c old v new → v ≡ Ready space n → Accepted c space n new
+pub accepted-case : (c : Case) (old : List ℕ) (v : Opened) (new : List ℕ) (space : AddressSpace) (n : ℕ) → rowNumbers c ≤ length old → Opens c (checkOf c) old v new → v ≡ Ready space n → Accepted c space n new
 accepted-case c old v new space n h q f = go (checkOf c) refl (q .rows) (sym (q .same) ∙ f)
   where
     go : (d : Read Sheet) → checkOf c ≡ d → RowsLaid old d new → openedOf d ≡ Ready space n → Accepted c space n new
@@ -129,8 +130,62 @@ accepted-case c old v new space n h q f = go (checkOf c) refl (q .rows) (sym (q 
         }
     go (refused r) g l k = absurd (let z : _≡_ {A = ℕ} 0 1 = cc in omega arith)
 
-pub refused-grounded : (c : Case) (r : Fault) → checkOf c ≡ refused r → (a : ℕ) → GroundedAt c a
-refused-grounded c r e a = rw e tt
+-- whether it is accepted or not, the walk of an address rests on what the files of the case hold
+pub case-grounded : (c : Case) (a : ℕ) → GroundedAt c a
+case-grounded c a = go (checkOf c) refl
+  where
+    go : (d : Read Sheet) → checkOf c ≡ d → byCheck c (λ f. Unit {0}) (λ w. Grounded w (resolveOf 3 w a)) d
+    go (refused f) e = tt
+    go (got s at) e =
+        grounded (worldOf s (c .image) (c .pagefile)) (sound-case s (c .image) (c .pagefile) (accepted-laws (c .sheet) (length (c .image)) (length (c .pagefile)) s at e)) a
 
-pub accepted-grounded : (c : Case) (space : AddressSpace) (n : ℕ) (rows : List ℕ) (q : Accepted c space n rows) (a : ℕ) → GroundedAt c a
-accepted-grounded c space n rows q a = rw (q .check) (grounded (worldOf (q .sheet) (c .image) (c .pagefile)) (q .sound) a)
+-- ---- a call that serves four levels alone
+
+served-sheet : (m : PagingMode) (s : Sheet) (at : ℕ) → servedOf (s .space) (3 * length (s .runs)) m ≡ openedOf (servedIn m (got s at))
+served-sheet FourLevel s at = refl
+served-sheet Plain s at = refl
+served-sheet (Pae place) s at = refl
+
+served-rows : (m : PagingMode) (s : Sheet) (at : ℕ) (old new : List ℕ) → RowsLaid old (got s at) new → RowsLaid old (servedIn m (got s at)) new
+served-rows FourLevel s at old new h = h
+served-rows Plain s at old new h = tt
+served-rows (Pae place) s at old new h = tt
+
+pub four-refused : (c : Case) {d : Read Sheet} (old : List ℕ) (v : Opened) (new : List ℕ) (r : Fault) → Opens c d old v new → v ≡ Refused r → Opens c (served d) old (Refused r) new
+four-refused c {d} old v new r q f = rw (refused-case c old v new r q f) (record { same = refl; rows = tt })
+
+pub four-ready : (c : Case) {d : Read Sheet} (old : List ℕ) (v : Opened) (new : List ℕ) (space : AddressSpace) (n : ℕ) → Opens c d old v new → v ≡ Ready space n
+    → (r : Opened) → r ≡ servedOf space n (space .mode) → Opens c (served d) old r new
+four-ready c {d} old v new space n q f r e = go d (q .rows) (sym (q .same) ∙ f)
+  where
+    go : (d : Read Sheet) → RowsLaid old d new → openedOf d ≡ Ready space n → Opens c (served d) old r new
+    go (got s at) l k =
+        let own : s .space ≡ space = cc in
+        let many : 3 * length (s .runs) ≡ n = cc in
+        record { same = e ∙ rw (← own, ← many) (served-sheet (s .space .mode) s at); rows = served-rows (s .space .mode) s at old new l }
+    go (refused x) l k = absurd (let z : _≡_ {A = ℕ} 0 1 = cc in omega arith)
+
+-- an accepted case of four levels
+pub record AcceptedFour (c : Case) (space : AddressSpace) (n : ℕ) (rows : List ℕ) : Type 0 where
+  pub case : Accepted c space n rows
+  pub check : served (checkOf c) ≡ got (case .sheet) (case .at)
+
+pub accepted-four : (c : Case) (old : List ℕ) (v : Opened) (new : List ℕ) (space : AddressSpace) (n : ℕ) → rowNumbers c ≤ length old → Opens c (served (checkOf c)) old v new → v ≡ Ready space n → AcceptedFour c space n new
+accepted-four c old v new space n h q f =
+    let all = accepted-case c old v new space n h (record { same = own .0; rows = own .1 }) f in
+    record { case = all; check = same-check (checkOf c) ready ∙ all .check }
+  where
+    whole : (m : PagingMode) (s : Sheet) (at : ℕ) → openedOf (servedIn m (got s at)) ≡ Ready space n → servedIn m (got s at) ≡ got s at
+    whole FourLevel s at k = refl
+    whole Plain s at k = absurd (let z : _≡_ {A = ℕ} 0 1 = cc in omega arith)
+    whole (Pae place) s at k = absurd (let z : _≡_ {A = ℕ} 0 1 = cc in omega arith)
+
+    ready : openedOf (served (checkOf c)) ≡ Ready space n
+    ready = sym (q .same) ∙ f
+
+    same-check : (d : Read Sheet) → openedOf (served d) ≡ Ready space n → served d ≡ d
+    same-check (got s at) k = whole (s .space .mode) s at k
+    same-check (refused x) k = refl
+
+    own : (v ≡ openedOf (checkOf c)) × RowsLaid old (checkOf c) new
+    own = let e = same-check (checkOf c) ready in (q .same ∙ ap openedOf e, subst (λ (d : Read Sheet). RowsLaid old d new) e (q .rows))

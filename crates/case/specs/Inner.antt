@@ -4,7 +4,12 @@ use mathlib.Core.List.{List}
 use Prim.Native.Nat.{ℕ, _*_}
 use lib.ListN.{length}
 use Rattle.varint.specs.Reader.{Read, got, refused}
+use Rattle.base.specs.Refusal.{unplaced}
+use Rattle.base.specs.declared.Refusal.the-variants.{ModeNotServed}
+use Rattle.entry.specs.declared.PagingMode.{PagingMode}
+use Rattle.entry.specs.declared.PagingMode.the-variants.{FourLevel, Plain, Pae}
 use Rattle.sheet.specs.Sheet.{Sheet}
+use Rattle.sheet.specs.declared.AddressSpace.{AddressSpace}
 use Rattle.sheet.specs.Call.{RowsLaid}
 use Rattle.case.specs.Case.{Case, checkOf}
 use Rattle.case.specs.declared.Opened.{Opened}
@@ -23,7 +28,13 @@ abbrev pub openedOf : Read Sheet → Opened
 openedOf (got s at) = Ready (s .space) (3 * length (s .runs))
 openedOf (refused f) = Refused f
 
--- the rows of an accepted case lie over the lent numbers
-pub record Opens (c : Case) (old : List ℕ) (r : Opened) (new : List ℕ) : Type 0 where
-  pub same : r ≡ openedOf (checkOf c)
-  pub rows : RowsLaid old (checkOf c) new
+-- the rows of a case that its check d accepts lie over the lent numbers
+pub record Opens (c : Case) (d : Read Sheet) (old : List ℕ) (r : Opened) (new : List ℕ) : Type 0 where
+  pub same : r ≡ openedOf d
+  pub rows : RowsLaid old d new
+
+-- the answer of a call that serves four levels alone, for an accepted case
+abbrev pub servedOf : AddressSpace → ℕ → PagingMode → Opened
+servedOf space n FourLevel = Ready space n
+servedOf space n Plain = Refused (unplaced ModeNotServed)
+servedOf space n (Pae place) = Refused (unplaced ModeNotServed)

@@ -10,8 +10,9 @@ use borrow.Author.Tests.{lt-ltb, le-ltb}
 use Rattle.base.specs.declared.Fault.{Fault}
 use Rattle.base.specs.declared.Refusal.the-variants.{ListBufferShort}
 use Rattle.varint.specs.Reader.{Read, got, refused}
-use Rattle.sheet.specs.Sheet.{Sheet, sheetOf}
+use Rattle.sheet.specs.Sheet.{modeNumber, placeOf, Sheet, sheetOf}
 use Rattle.sheet.specs.Call.{rowsFrom, sheetRead, SheetAnswer}
+use Rattle.sheet.specs.declared.AddressSpace.{AddressSpace}
 use Rattle.sheet.specs.declared.Header.{Header}
 use Rattle.sheet.specs.declared.SheetRead.{SheetRead}
 use Rattle.sheet.specs.declared.SheetRead.the-variants as sheet-read
@@ -36,13 +37,13 @@ module _ (bytes : List ℕ) (image pagefile : ℕ) (old : List ℕ) (s : Sheet) 
   no-room h a g = rw (e, g, lt-ltb (length old) (3 * length (s .runs)) h)
 
   all-runs : (n : ℕ) → n ≡ length (s .runs) → 3 * n ≤ length old → (new rest : List ℕ) → new ≡ runNumbers 0 (s .runs) → rest ≡ drop (3 * n) old
-      → (directory : ℕ) → directory ≡ s .space .directory .0
-      → record { answer = record { number = 0; directory = directory; length = n }; buffer = new ++ rest } ≡ caseRunsOf bytes image pagefile old
+      → (directory mode place : ℕ) → directory ≡ s .space .directory .0 → mode ≡ modeNumber (s .space .mode) → place ≡ placeOf (s .space .mode)
+      → record { answer = record { number = 0; directory = directory; mode = mode; place = place; length = n }; buffer = new ++ rest } ≡ caseRunsOf bytes image pagefile old
   unfolding caseRunsOf
-  all-runs n many fits new rest f g directory d =
+  all-runs n many fits new rest f g directory mode place d m p =
       let long : 0 + length (runNumbers 0 (s .runs)) ≡ 3 * n = omega (arith, many, numbers-long 0 (s .runs)) in
       let laid : sets old 0 (runNumbers 0 (s .runs)) ≡ runNumbers 0 (s .runs) ++ drop (3 * n) old = sets-eq (runNumbers 0 (s .runs)) old 0 (omega (arith, long)) ∙ rw long in
-      rw (e, f, g, d, le-ltb (length old) (3 * length (s .runs)) (omega (arith, many)), laid, many)
+      rw (e, f, g, d, m, p, le-ltb (length old) (3 * length (s .runs)) (omega (arith, many)), laid, many)
 
 -- ---- what a caller of `read_sheet` learns
 
@@ -53,7 +54,7 @@ record Accepts (bytes : List ℕ) (image pagefile : ℕ) (h : Header) : Type 0 w
   check : sheetOf bytes image pagefile ≡ got sheet at
   laws : AcceptedCase image pagefile sheet
   many : h .count ≡ length (sheet .runs)
-  directory : h .space .directory .0 ≡ sheet .space .directory .0
+  space : h .space ≡ sheet .space
 
 module _ (bytes : List ℕ) (image pagefile : ℕ) (part : List ℕ) (r : SheetRead) (new : List ℕ) (p : SheetAnswer (sheetOf bytes image pagefile) part r new) where
   accepts : (h : Header) → r ≡ sheet-read.Accepted h → Accepts bytes image pagefile h
@@ -68,7 +69,7 @@ module _ (bytes : List ℕ) (image pagefile : ℕ) (part : List ℕ) (r : SheetR
             check = e;
             laws = accepted-laws bytes image pagefile s at e;
             many = ap (λ (x : Header). x .count) own;
-            directory = ap (λ (x : Header). x .space .directory .0) own;
+            space = ap (λ (x : Header). x .space) own;
           }
       go (refused x) e g = absurd (let z : _≡_ {A = ℕ} 0 1 = cc in omega arith)
 
@@ -123,11 +124,14 @@ module _ (bytes : List ℕ) (image pagefile : ℕ) (old last : List ℕ) (r : Sh
       pub ordered : RowsInOrder (take n (rows ++ drop n (last ++ old)))
       ordered = rw front (rows-in-order 0 0 0 (q .sheet .runs) (q .laws .chain) (omega arith))
 
-      pub handed-back : (new : List ℕ) → new ≡ runsOfRows (take n (rows ++ drop n (last ++ old))) → (directory : ℕ) → directory ≡ h .space .directory .0
-          → record { answer = record { number = 0; directory = directory; length = h .count }; buffer = new ++ drop n (rows ++ drop n (last ++ old)) } ≡ caseRunsOf bytes image pagefile old
-      handed-back new e directory g =
+      pub handed-back : (new : List ℕ) → new ≡ runsOfRows (take n (rows ++ drop n (last ++ old)))
+          → (directory mode place : ℕ) → directory ≡ h .space .directory .0 → mode ≡ modeNumber (h .space .mode) → place ≡ placeOf (h .space .mode)
+          → record { answer = record { number = 0; directory = directory; mode = mode; place = place; length = h .count }; buffer = new ++ drop n (rows ++ drop n (last ++ old)) }
+          ≡ caseRunsOf bytes image pagefile old
+      handed-back new e directory mode place d m p =
           let numbers : new ≡ runNumbers 0 (q .sheet .runs) = e ∙ rw front (rows-turned 0 0 0 (q .sheet .runs) (q .laws .chain) (omega arith)) in
           let rest : drop n (rows ++ drop n (last ++ old)) ≡ drop n old =
           drop-at rows (drop n (last ++ old)) n rows-many ∙ rw whole in
           let fits : n ≤ length old = omega (arith, room, ap length whole) in
-          all-runs bytes image pagefile old (q .sheet) (q .at) (q .check) (h .count) (q .many) fits _ _ numbers rest directory (g ∙ q .directory)
+          all-runs bytes image pagefile old (q .sheet) (q .at) (q .check) (h .count) (q .many) fits _ _ numbers rest directory mode place
+          (d ∙ ap (λ (x : AddressSpace). x .directory .0) (q .space)) (m ∙ ap (λ (x : AddressSpace). modeNumber (x .mode)) (q .space)) (p ∙ ap (λ (x : AddressSpace). placeOf (x .mode)) (q .space))

@@ -4,9 +4,8 @@ use mathlib.Core.List.{List, [], _∷_, _++_}
 use Prim.Native.Nat.{ℕ}
 use Rattle.base.specs.Example.{Example, same, Hold}
 use Rattle.varint.specs.Groups.{decode, number}
-use Rattle.varint.specs.Edition.{edition, editionFields}
 use Rattle.base.specs.Refusal.{shownPosition}
-use Rattle.sheet.specs.Sheet.{header, runFrom, runsFrom, ownFields, sheetFields, sheetOf}
+use Rattle.sheet.specs.Sheet.{modeFields, header, runFrom, runsFrom, ownFields, sheetFields, sheetOf}
 use Rattle.base.specs.declared.Written.{Written}
 use Rattle.case_runs.specs.Call.{CaseOutcome, caseRunsOf, imageBytes, imageLengthOf}
 
@@ -17,7 +16,7 @@ five : List ℕ
 five = 91 ∷ 92 ∷ 93 ∷ 94 ∷ 95 ∷ []
 
 outcome : ℕ → ℕ → ℕ → List ℕ → CaseOutcome
-outcome number directory length buffer = record { answer = record { number = number; directory = directory; length = length }; buffer = buffer }
+outcome number directory length buffer = record { answer = record { number = number; directory = directory; mode = 0; place = 0; length = length }; buffer = buffer }
 
 length-of : ℕ → ℕ → Written
 length-of number length = record { number = number; length = length }
@@ -42,9 +41,32 @@ lengths =
     ∷ []
 
 pub cases-hold : Hold cases
-unfolding cases p1-bytes five outcome shownPosition caseRunsOf sheetOf sheetFields ownFields header editionFields edition runsFrom runFrom number decode
+unfolding cases p1-bytes five outcome shownPosition caseRunsOf sheetOf sheetFields ownFields header runsFrom runFrom number decode
 cases-hold = (refl, (refl, (refl, (refl, (refl, (refl, tt))))))
 
 pub lengths-hold : Hold lengths
-unfolding lengths p1-bytes length-of shownPosition imageLengthOf imageBytes ownFields header editionFields edition runsFrom runFrom number decode
+unfolding lengths p1-bytes length-of shownPosition imageLengthOf imageBytes ownFields header runsFrom runFrom number decode
 lengths-hold = (refl, (refl, (refl, tt)))
+
+-- ---- edition 2
+
+-- one page, in an address space of this directory page, mode and place
+one-page : ℕ → ℕ → ℕ → CaseOutcome
+one-page directory mode place = record { answer = record { number = 0; directory = directory; mode = mode; place = place; length = 1 }; buffer = 0 ∷ 1 ∷ 0 ∷ [] }
+
+three : List ℕ
+three = 91 ∷ 92 ∷ 93 ∷ []
+
+-- plain paging; PAE at the first place, at another and at the last; a place that is not shortest
+pub modes : List Example
+modes =
+    same (caseRunsOf (0x02 ∷ 0x39 ∷ 0x01 ∷ 0x00 ∷ 0x01 ∷ 0x00 ∷ 0x01 ∷ []) 4096 0 three) (one-page 0x39 1 0)
+    ∷ same (caseRunsOf (0x02 ∷ 0x39 ∷ 0x02 ∷ 0x00 ∷ 0x01 ∷ 0x00 ∷ 0x01 ∷ []) 4096 0 three) (one-page 0x39 2 0)
+    ∷ same (caseRunsOf (0x02 ∷ 0x39 ∷ 0x02 ∷ 0x41 ∷ 0x01 ∷ 0x00 ∷ 0x01 ∷ []) 4096 0 three) (one-page 0x39 2 65)
+    ∷ same (caseRunsOf (0x02 ∷ 0x39 ∷ 0x02 ∷ 0x7F ∷ 0x01 ∷ 0x00 ∷ 0x01 ∷ []) 4096 0 three) (one-page 0x39 2 127)
+    ∷ same (caseRunsOf (0x02 ∷ 0x39 ∷ 0x02 ∷ 0xC1 ∷ 0x00 ∷ 0x01 ∷ 0x00 ∷ 0x01 ∷ []) 4096 0 three) (outcome 18 0 3 three)
+    ∷ []
+
+pub modes-hold : Hold modes
+unfolding modes one-page three outcome shownPosition caseRunsOf sheetOf sheetFields ownFields header modeFields runsFrom runFrom number decode
+modes-hold = (refl, (refl, (refl, (refl, (refl, tt)))))

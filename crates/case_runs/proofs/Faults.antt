@@ -11,10 +11,10 @@ use Rattle.base.specs.Notation.{if_then_else_, within}
 use Rattle.base.specs.Refusal.{refusalNumber, unplaced}
 use Rattle.base.specs.declared.Refusal.{Refusal}
 use Rattle.base.specs.declared.Refusal.the-variants.{NumberNotShortest, OutOfLimits, BadRun, TrailingBytes}
-use Rattle.varint.specs.Reader.{Read, got, refused, Reader, after, need}
+use Rattle.varint.specs.Reader.{Read, got, refused, Reader, after, return, need}
 use Rattle.varint.specs.Groups.{under, dec, begunAt, decode, number}
-use Rattle.varint.specs.Edition.{edition, editionFields}
-use Rattle.sheet.specs.Sheet.{header, runFrom, runsFrom, endOf, ownFields}
+use Rattle.entry.specs.declared.PagingMode.the-variants.{FourLevel}
+use Rattle.sheet.specs.Sheet.{isPlace, modeFields, modeBy, header, runFrom, runsFrom, endOf, ownFields}
 use Rattle.case_runs.specs.Call.{imageBytes}
 
 -- 10 to 14, or 18
@@ -60,17 +60,28 @@ number-own : (s : List ℕ) (at : ℕ) → OwnFault (number s at)
 unfolding number
 number-own s at = then-own s _ (decode s at) (decode-own s at) (λ n next. need-own s _ (ltb n (2 ^ 36)) OutOfLimits next (inl (omega arith)) (λ x end. tt))
 
-edition-own : (s : List ℕ) (at : ℕ) → OwnFault (edition s at)
-unfolding edition
-edition-own s at = then-own s _ (number s at) (number-own s at) (λ n next. need-own s _ (eqb n 1) OutOfLimits next (inl (omega arith)) (λ x end. tt))
+out-of-limits : Own (refusalNumber OutOfLimits)
+out-of-limits = inl (omega arith)
 
-fields-own : (s : List ℕ) (at : ℕ) → OwnFault (editionFields s at)
-unfolding editionFields
-fields-own s at = then-own s _ (edition s at) (edition-own s at) (λ n a. then-own s _ (number s a) (number-own s a) (λ x b. then-own s _ (number s b) (number-own s b) (λ y c. tt)))
+mode-own : (s : List ℕ) (at : ℕ) → OwnFault (modeFields s at)
+unfolding modeFields
+mode-own s at =
+    then-own s _ (number s at) (number-own s at) (λ mode a. need-own s _ (within 1 2 mode) OutOfLimits a out-of-limits (λ x b.
+    then-own s _ (number s b) (number-own s b) (λ place c. need-own s _ (isPlace mode place) OutOfLimits c out-of-limits (λ y d. tt))))
+
+by-own : (edition : ℕ) (s : List ℕ) (at : ℕ) → OwnFault (modeBy edition s at)
+by-own edition s at = go (eqb edition 1)
+  where
+    go : (b : Bool) → OwnFault ((if b then return FourLevel else modeFields) s at)
+    go true = tt
+    go false = mode-own s at
 
 header-own : (s : List ℕ) (at : ℕ) → OwnFault (header s at)
 unfolding header
-header-own s at = then-own s _ (editionFields s at) (fields-own s at) (λ f a. need-own s _ (within 1 1000 (f .second)) OutOfLimits a (inl (omega arith)) (λ x b. tt))
+header-own s at =
+    then-own s _ (number s at) (number-own s at) (λ edition a. need-own s _ (within 1 2 edition) OutOfLimits a out-of-limits (λ x b.
+    then-own s _ (number s b) (number-own s b) (λ directory c. then-own s _ (modeBy edition s c) (by-own edition s c) (λ mode d.
+    then-own s _ (number s d) (number-own s d) (λ count f. need-own s _ (within 1 1000 count) OutOfLimits f out-of-limits (λ y g. tt))))))
 
 run-own : (least end : ℕ) (s : List ℕ) (at : ℕ) → OwnFault (runFrom least end s at)
 unfolding runFrom

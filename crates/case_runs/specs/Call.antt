@@ -12,7 +12,7 @@ use Rattle.base.specs.declared.Refusal.the-variants.{ListBufferShort}
 use Rattle.base.specs.Written.{faultWritten}
 use Rattle.base.specs.declared.Written.{Written}
 use Rattle.varint.specs.Reader.{Read, got, refused, Reader, _>>=_, return}
-use Rattle.sheet.specs.Sheet.{runPages, Sheet, ownFields, sheetOf}
+use Rattle.sheet.specs.Sheet.{modeNumber, placeOf, runPages, Sheet, ownFields, sheetOf}
 use Rattle.sheet.specs.declared.Run.{Run}
 use Rattle.case_runs.specs.declared.CaseRead.{CaseRead}
 
@@ -27,11 +27,11 @@ pub record CaseOutcome : Type 0 where
   pub buffer : List ℕ
 
 abbrev pub caseRefusal : Refusal → CaseRead
-caseRefusal r = record { number = refusalNumber r; directory = 0; length = 0 }
+caseRefusal r = record { number = refusalNumber r; directory = 0; mode = 0; place = 0; length = 0 }
 
 -- a sheet at fault
 abbrev pub faultCase : Fault → CaseRead
-faultCase f = record { number = refusalNumber (f .refusal); directory = 0; length = shownPosition f }
+faultCase f = record { number = refusalNumber (f .refusal); directory = 0; mode = 0; place = 0; length = shownPosition f }
 
 -- a refusal leaves the buffer as it was lent
 abbrev pub unlisted : List ℕ → Refusal → CaseOutcome
@@ -42,7 +42,13 @@ abbrev pub listed : List ℕ → Sheet → CaseOutcome
 listed out s =
     if ltb (length out) (3 * length (s .runs)) then unlisted out ListBufferShort else
     record {
-      answer = record { number = 0; directory = s .space .directory .0; length = length (s .runs) };
+      answer = record {
+        number = 0;
+        directory = s .space .directory .0;
+        mode = modeNumber (s .space .mode);
+        place = placeOf (s .space .mode);
+        length = length (s .runs);
+      };
       buffer = sets out 0 (runNumbers 0 (s .runs));
     }
 

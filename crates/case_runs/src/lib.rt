@@ -1,4 +1,4 @@
-// What a case's sheet says, in numbers: the directory page, and where each run lies in physical memory and in the image.
+// What a case's sheet says, in numbers: the directory page, its paging mode and place, and where each run lies in physical memory and in the image.
 use base::Fault;
 use base::Refusal;
 use base::Written;
@@ -8,15 +8,17 @@ ghost use mathlib.Core.Path.{_≡_};
 ghost use Rattle.case_runs.specs.Call.{caseRefusal, faultCase, caseRunsOf, imageLengthOf};
 ghost use Rattle.case_runs.specs.Inner.{RowsInOrder, runsOfRows};
 
-// 01's number, or 53 for a buffer too short; the directory page and how many runs there are.
+// 01's number, or 53 for a buffer too short; the directory page, the paging mode's two numbers, and how many runs there are.
 #[repr(C)]
 pub struct CaseRead {
     pub number: u64,
     pub directory: u64,
+    pub mode: u64,
+    pub place: u64,
     pub length: u64,
 }
 
-// The directory page of a case, and three numbers a run into the lent buffer: first frame, pages, image page.
+// The address space of a case, and three numbers a run into the lent buffer: first frame, pages, image page.
 pub fn case_runs(sheet: &[u8], image: u64, pagefile: u64, out: &mut [u64]) -> CaseRead
     ensures { λ r. ⌜ record { answer = r; buffer = now (out .exit) } ≡ caseRunsOf (now (sheet .entry)) image pagefile (now (out .entry)) ⌝ }
 {
@@ -33,9 +35,14 @@ pub fn case_runs(sheet: &[u8], image: u64, pagefile: u64, out: &mut [u64]) -> Ca
             rows_to_runs(&mut out[..n]);
             let space = header.space;
             let directory = space.directory;
+            let paging = space.mode;
+            let mode = sheet::mode_number(paging);
+            let place = sheet::place_of(paging);
             CaseRead {
                 number: 0,
                 directory: directory.number(),
+                mode,
+                place,
                 length: count as u64,
             }
         }
@@ -63,6 +70,8 @@ fn refuse(refusal: Refusal) -> CaseRead
     CaseRead {
         number: refusal.number(),
         directory: 0,
+        mode: 0,
+        place: 0,
         length: 0,
     }
 }
@@ -74,10 +83,12 @@ fn fault_case(fault: Fault) -> CaseRead
     let refusal = fault.refusal;
     let number = refusal.number();
     let position = fault.shown_position();
-    let directory = 0;
+    let zero = 0;
     CaseRead {
         number,
-        directory,
+        directory: zero,
+        mode: zero,
+        place: zero,
         length: position,
     }
 }

@@ -1,14 +1,14 @@
 // Checks sheets from standard input, for the differential test. A record is the image's length, the pagefile's
-// length and the sheet's length, 8 bytes each and little-endian, then the sheet, of at most 12,009 bytes.
-// A refused sheet prints its number, and for 11 and 18 the position; an accepted one 0, the directory page, the number of runs, and each run's first frame and pages.
+// length and the sheet's length, 8 bytes each and little-endian, then the sheet, of at most 12,011 bytes.
+// A refused sheet prints its number, and for 11 and 18 the position; an accepted one 0, the directory page, the paging mode's number and its place, the number of runs, and each run's first frame and pages.
 use base::Fault;
 use libc::STDIN_FILENO;
 use libc::STDOUT_FILENO;
 use sheet::Header;
 use sheet::SheetRead;
 
-// Edition, directory page, count and 1,000 runs take no more.
-const MOST_BYTES: u64 = 12009;
+// Edition, directory page, mode, place, count and 1,000 runs take no more.
+const MOST_BYTES: u64 = 12011;
 
 fn main() {
     // No input has 2^64 - 1 records.
@@ -28,7 +28,7 @@ fn check_next() -> bool {
         return false;
     }
     let n = length as usize;
-    let mut bytes = [0u8; 12009];
+    let mut bytes = [0u8; 12011];
     check_one(
         words::word_at(&lengths, 0),
         words::word_at(&lengths, 8),
@@ -63,8 +63,12 @@ fn print_fault(fault: Fault) {
 
 fn print_case(header: Header, rows: &[u64; 3000]) {
     io::print_decimal(STDOUT_FILENO, 0);
-    let directory = header.space.directory;
+    let space = header.space;
+    let directory = space.directory;
     print_next(directory.number());
+    let mode = space.mode;
+    print_next(sheet::mode_number(mode));
+    print_next(sheet::place_of(mode));
     let count = header.count;
     print_next(count as u64);
     let mut i = 0;

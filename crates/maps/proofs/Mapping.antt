@@ -30,7 +30,7 @@ use Rattle.map_format.proofs.Answers.{Mappable}
 use Rattle.map_format.proofs.Building.{emptyAt, taken-none, taken-then, taken-finish, header-length, room-empty, room-less, room-pushed}
 use Rattle.maps.specs.MapOf.{allowed, mappedPageOf, pagesOf, headerOf, mapOf}
 use Rattle.maps.specs.Call.{mapOutcome}
-use Rattle.maps.proofs.Ranges.{allowed-range, in-range}
+use Rattle.maps.proofs.Ranges.{range-reached}
 
 -- an answer whose number is a code can stand in a map
 pub mappable : (p : Place) → PlaceCoded p → Mappable (mappedPageOf p)
@@ -73,12 +73,12 @@ module _ {w : World} {start count : ℕ} {old : List ℕ} {b₀ : Builder} {i : 
   pub mapping-room : i < count → RoomFor b 1
   mapping-room h = room-less 1 (omega arith) (q .room)
 
-  mappable-at : Sound w → length (w .image) ≤ 2 ^ 48 → allowed start count ≡ true → i < count → Mappable (mappedPageOf (resolveOf 3 w (start + 4096 * i) .place))
+  mappable-at : Sound w → length (w .image) ≤ 2 ^ 48 → allowed (w .space .mode) start count ≡ true → i < count → Mappable (mappedPageOf (resolveOf 3 w (start + 4096 * i) .place))
   mappable-at sound small range h =
-      let r = in-range (allowed-range start count range) (start + 4096 * i) (omega arith) (omega arith) in
-      mappable (resolveOf 3 w (start + 4096 * i) .place) (resolve-coded w sound small 3 (start + 4096 * i) (r .reaches))
+      let reached = range-reached (w .space .mode) start count range (start + 4096 * i) (omega arith) (omega arith) in
+      mappable (resolveOf 3 w (start + 4096 * i) .place) (resolve-coded w sound small 3 (start + 4096 * i) reached)
 
-  pub mapping-next : Sound w → length (w .image) ≤ 2 ^ 48 → allowed start count ≡ true → i < count
+  pub mapping-next : Sound w → length (w .image) ≤ 2 ^ 48 → allowed (w .space .mode) start count ≡ true → i < count
       → (v : Resolved) → v ≡ resolvedOf (resolveOf 3 w (start + 4096 * i)) → (page : MappedPage) → page ≡ mappedPageOf (v .place)
       → (new : List ℕ) (b′ : Builder) → PagesTaken out b (page ∷ []) new b′ → Mapping w start count old b₀ (i + 1) new b′
   mapping-next sound small range h v e page f new b′ p =

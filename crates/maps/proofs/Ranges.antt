@@ -7,10 +7,13 @@ use lib.Dec.{eqb, leb}
 use borrow.Author.Tests.{lt-ltb, le-ltb, le-leb, lt-leb, leb-true, leb-false, eq-eqb, ne-eqb, eqb-true}
 use Rattle.base.specs.Notation.{bits, within}
 use Rattle.base.proofs.Test.{Test, test, below, above, both-true}
-use Rattle.entry.specs.Addresses.{reachable}
+use Rattle.entry.specs.Addresses.{reachable, reachableIn}
+use Rattle.entry.specs.declared.PagingMode.{PagingMode}
+use Rattle.entry.specs.declared.PagingMode.the-variants.{FourLevel, Plain, Pae}
+use Rattle.walk.specs.Rows.{placedMode}
 use Rattle.entry.specs.Pages.{virtualPageOf}
 use Rattle.map_format.specs.Reading.{inHalf}
-use Rattle.maps.specs.MapOf.{allowed}
+use Rattle.maps.specs.MapOf.{allowedWide, allowedNarrow, allowed}
 
 -- two comparisons that say the same
 same-leb : (a b c d : ℕ) → (a ≤ b → c ≤ d) → (c ≤ d → a ≤ b) → leb a b ≡ leb c d
@@ -30,27 +33,27 @@ same-leb a b c d f g = go (leb a b) refl
 -- ---- the code's tests, in order
 
 module _ (start count : ℕ) where
-  pub unaligned : (start % 4096 ≡ 0 → ⊥) → false ≡ allowed start count
-  unfolding allowed
+  pub unaligned : (start % 4096 ≡ 0 → ⊥) → false ≡ allowedWide start count
+  unfolding allowedWide
   unaligned h = rw (ne-eqb (start % 4096) 0 h)
 
   module _ (h₁ : start % 4096 ≡ 0) where
-    pub no-pages : count < 1 → false ≡ allowed start count
-    unfolding allowed
+    pub no-pages : count < 1 → false ≡ allowedWide start count
+    unfolding allowedWide
     no-pages h = rw (eq-eqb (start % 4096) 0 h₁, lt-leb 1 count h)
 
     module _ (h₂ : 1 ≤ count) where
-      pub too-many : 2 ^ 20 < count → false ≡ allowed start count
-      unfolding allowed
+      pub too-many : 2 ^ 20 < count → false ≡ allowedWide start count
+      unfolding allowedWide
       too-many h = rw (eq-eqb (start % 4096) 0 h₁, le-leb 1 count h₂, lt-leb count (2 ^ 20) h)
 
       module _ (h₃ : count ≤ 2 ^ 20) where
-        pub between : start < 2 ^ 64 - 2 ^ 47 → 2 ^ 47 < start → false ≡ allowed start count
-        unfolding allowed
+        pub between : start < 2 ^ 64 - 2 ^ 47 → 2 ^ 47 < start → false ≡ allowedWide start count
+        unfolding allowedWide
         between l g = rw (eq-eqb (start % 4096) 0 h₁, le-leb 1 count h₂, le-leb count (2 ^ 20) h₃, lt-leb (start + 4096 * count) (2 ^ 47) (omega arith), lt-leb (2 ^ 64 - 2 ^ 47) start l)
 
-        pub low-half : start < 2 ^ 64 - 2 ^ 47 → start ≤ 2 ^ 47 → leb (4096 * count) (2 ^ 47 - start) ≡ allowed start count
-        unfolding allowed
+        pub low-half : start < 2 ^ 64 - 2 ^ 47 → start ≤ 2 ^ 47 → leb (4096 * count) (2 ^ 47 - start) ≡ allowedWide start count
+        unfolding allowedWide
         low-half l g =
             rw (eq-eqb (start % 4096) 0 h₁, le-leb 1 count h₂, le-leb count (2 ^ 20) h₃, lt-leb (2 ^ 64 - 2 ^ 47) start l)
             (same-leb (4096 * count) (2 ^ 47 - start) (start + 4096 * count) (2 ^ 47) (λ x. omega (arith, x)) (λ x. omega (arith, x)) ∙ or-false (leb (start + 4096 * count) (2 ^ 47)))
@@ -59,11 +62,34 @@ module _ (start count : ℕ) where
             or-false true = refl
             or-false false = refl
 
-        pub high-half : 2 ^ 64 - 2 ^ 47 ≤ start → start < 2 ^ 64 → leb (4096 * count - 1) (2 ^ 64 - 1 - start) ≡ allowed start count
-        unfolding allowed
+        pub high-half : 2 ^ 64 - 2 ^ 47 ≤ start → start < 2 ^ 64 → leb (4096 * count - 1) (2 ^ 64 - 1 - start) ≡ allowedWide start count
+        unfolding allowedWide
         high-half l g =
             rw (eq-eqb (start % 4096) 0 h₁, le-leb 1 count h₂, le-leb count (2 ^ 20) h₃, le-leb (2 ^ 64 - 2 ^ 47) start l, lt-leb (start + 4096 * count) (2 ^ 47) (omega arith))
             (same-leb (4096 * count - 1) (2 ^ 64 - 1 - start) (start + 4096 * count) (2 ^ 64) (λ x. omega (arith, x)) (λ x. omega (arith, x)))
+
+-- ---- the code's tests of a 32-bit profile
+
+module _ (start count : ℕ) where
+  pub narrow-unaligned : (start % 4096 ≡ 0 → ⊥) → false ≡ allowedNarrow start count
+  unfolding allowedNarrow
+  narrow-unaligned h = rw (ne-eqb (start % 4096) 0 h)
+
+  module _ (h₁ : start % 4096 ≡ 0) where
+    pub narrow-empty : count < 1 → false ≡ allowedNarrow start count
+    unfolding allowedNarrow
+    narrow-empty h = rw (eq-eqb (start % 4096) 0 h₁, lt-leb 1 count h)
+
+    module _ (h₂ : 1 ≤ count) where
+      pub narrow-past : 2 ^ 32 < start → false ≡ allowedNarrow start count
+      unfolding allowedNarrow
+      narrow-past h = rw (eq-eqb (start % 4096) 0 h₁, le-leb 1 count h₂, lt-leb (start + 4096 * count) (2 ^ 32) (omega arith))
+
+      pub narrow-end : start ≤ 2 ^ 32 → leb count ((2 ^ 32 - start) / 4096) ≡ allowedNarrow start count
+      unfolding allowedNarrow
+      narrow-end h =
+          rw (eq-eqb (start % 4096) 0 h₁, le-leb 1 count h₂)
+          (same-leb count ((2 ^ 32 - start) / 4096) (start + 4096 * count) (2 ^ 32) (λ x. omega (arith, x)) (λ x. omega (arith, x)))
 
 -- ---- what an allowed range keeps to
 
@@ -84,9 +110,9 @@ half-of start count false true true ea eb ec e = high (leb-true (2 ^ 64 - 2 ^ 47
 half-of start count false true false ea eb ec e = absurd (let z : _≡_ {A = ℕ} 0 1 = cc in omega arith)
 half-of start count false false c ea eb ec e = absurd (let z : _≡_ {A = ℕ} 0 1 = cc in omega arith)
 
-pub allowed-range : (start count : ℕ) → allowed start count ≡ true → Allowed start count
-unfolding allowed
-allowed-range start count e =
+wide-range : (start count : ℕ) → allowedWide start count ≡ true → Allowed start count
+unfolding allowedWide
+wide-range start count e =
     let t₁ = both-true (eqb (start % 4096) 0) _ e in
     let t₂ = both-true (within 1 (2 ^ 20) count) _ (t₁ .1) in
     let t₃ = both-true (leb 1 count) (leb count (2 ^ 20)) (t₂ .0) in
@@ -96,6 +122,28 @@ allowed-range start count e =
       most = leb-true count (2 ^ 20) (t₃ .1);
       half = half-of start count (leb (start + 4096 * count) (2 ^ 47)) (leb (2 ^ 64 - 2 ^ 47) start) (leb (start + 4096 * count) (2 ^ 64)) refl refl refl (t₂ .1);
     }
+
+-- whole pages below 2^32 lie in the lower half, and are at most 2^20
+narrow-range : (start count : ℕ) → allowedNarrow start count ≡ true → Allowed start count × (start + 4096 * count ≤ 2 ^ 32)
+unfolding allowedNarrow
+narrow-range start count e =
+    let t₁ = both-true (eqb (start % 4096) 0) _ e in
+    let t₂ = both-true (leb 1 count) (leb (start + 4096 * count) (2 ^ 32)) (t₁ .1) in
+    let end : start + 4096 * count ≤ 2 ^ 32 = leb-true (start + 4096 * count) (2 ^ 32) (t₂ .1) in
+    (record { aligned = eqb-true (start % 4096) 0 (t₁ .0); some = leb-true 1 count (t₂ .0); most = omega arith; half = low (omega arith) }, end)
+
+pub allowed-range : (m : PagingMode) (start count : ℕ) → allowed m start count ≡ true → Allowed start count
+unfolding allowed
+allowed-range FourLevel start count e = wide-range start count e
+allowed-range Plain start count e = narrow-range start count e .0
+allowed-range (Pae place) start count e = narrow-range start count e .0
+
+-- a mode as the code takes it allows the same
+pub placed-allowed : (m : PagingMode) (start count : ℕ) → allowed (placedMode m) start count ≡ allowed m start count
+unfolding allowed
+placed-allowed FourLevel start count = refl
+placed-allowed Plain start count = refl
+placed-allowed (Pae place) start count = refl
 
 pub range-top : {start count : ℕ} → Allowed start count → start + 4096 * count ≤ 2 ^ 64
 range-top {start} {count} q = go (q .half)
@@ -172,3 +220,10 @@ module _ {start count : ℕ} (q : Allowed start count) where
         le-ltb (bits start 12 47) (2 ^ 35) (omega (arith, q .some)),
         le-leb (bits start 12 47 + count) (2 ^ 36) (omega (arith, q .aligned)),
       )
+
+-- every address of an allowed range is one of the address space
+pub range-reached : (m : PagingMode) (start count : ℕ) → allowed m start count ≡ true → (a : ℕ) → start ≤ a → a < start + 4096 * count → reachableIn m a ≡ true
+unfolding allowed reachableIn
+range-reached FourLevel start count e a l u = in-range (wide-range start count e) a l u .reaches
+range-reached Plain start count e a l u = lt-ltb a (2 ^ 32) (omega (arith, narrow-range start count e .1))
+range-reached (Pae place) start count e a l u = lt-ltb a (2 ^ 32) (omega (arith, narrow-range start count e .1))

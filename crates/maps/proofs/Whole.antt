@@ -20,7 +20,7 @@ use Rattle.sheet.specs.Sheet.{runPages}
 use Rattle.sheet.specs.declared.AddressSpace.{AddressSpace}
 use Rattle.sheet.proofs.AcceptedCase.{pages-below}
 use Rattle.walk.specs.Walk.{World, worldOf, resolveOf, numberOf, offsetOf}
-use Rattle.entry.specs.Addresses.{reachable, canonical}
+use Rattle.entry.specs.Addresses.{reachable, canonical, reachableIn}
 use Rattle.walk.specs.Rows.{rowsWorld}
 use Rattle.walk.specs.declared.Place.{Place}
 use Rattle.walk.specs.declared.Place.the-variants.{Image, Pagefile, Zeros, Refused}
@@ -28,7 +28,7 @@ use Rattle.walk.proofs.Ground.{Sound, At, resolve-at}
 use Rattle.walk.proofs.Codes.{resolve-coded}
 use Rattle.walk.proofs.SamePage.{moved, same-page}
 use Rattle.case.specs.Case.{Case, checkOf}
-use Rattle.case.proofs.Opening.{Accepted, refused-grounded, accepted-grounded}
+use Rattle.case.proofs.Opening.{Accepted, case-grounded}
 use Rattle.map_format.specs.Reading.{mapFields}
 use Rattle.map_format.specs.Extents.{hasFilePage, extentsOf, pageAt}
 use Rattle.map_format.specs.declared.Extent.{Extent}
@@ -44,7 +44,7 @@ use Rattle.maps.specs.Demand3.{walkAnswer, AnswersAsWalk, Fewest, Demand
 use Rattle.maps.specs.Call.{mapOutcome, mapCall, MapAnswer}
 use Rattle.base.specs.declared.Written.{Written}
 use Rattle.base.specs.Written.{notWritten, faultWritten, written}
-use Rattle.maps.proofs.Ranges.{Allowed, allowed-range, in-range, start-in-half}
+use Rattle.maps.proofs.Ranges.{Allowed, allowed-range, in-range, start-in-half, range-reached, placed-allowed}
 use Rattle.maps.proofs.Mapping.{mappable, pages-long}
 
 -- page k of the pages
@@ -71,14 +71,14 @@ page-answers w b k hb hk (Pagefile o) t = ap (λ (x : ℕ). record { number = 2;
 page-answers w b k hb hk Zeros t = refl
 page-answers w b k hb hk (Refused r) t = rw (refusal-no-file r)
 
-module _ (w : World) (sound : Sound w) (small : length (w .image) ≤ 2 ^ 48) (start count : ℕ) (range : allowed start count ≡ true) where
+module _ (w : World) (sound : Sound w) (small : length (w .image) ≤ 2 ^ 48) (start count : ℕ) (range : allowed (w .space .mode) start count ≡ true) where
   q : Allowed start count
-  q = allowed-range start count range
+  q = allowed-range (w .space .mode) start count range
 
   abbrev pages : List MappedPage
   pages = pagesOf count w start
 
-  all-mappable : (n a : ℕ) → ((k : ℕ) → k < n → reachable (a + 4096 * k) ≡ true) → AllMappable (pagesOf n w a)
+  all-mappable : (n a : ℕ) → ((k : ℕ) → k < n → reachableIn (w .space .mode) (a + 4096 * k) ≡ true) → AllMappable (pagesOf n w a)
   unfolding pagesOf
   all-mappable zero a h = tt
   all-mappable (suc n) a h =
@@ -91,7 +91,7 @@ module _ (w : World) (sound : Sound w) (small : length (w .image) ≤ 2 ^ 48) (s
       afterPage k = omega arith
 
   holds : AllMappable pages
-  holds = all-mappable count start (λ k l. in-range q (start + 4096 * k) (omega arith) (omega arith) .reaches)
+  holds = all-mappable count start (λ k l. range-reached (w .space .mode) start count range (start + 4096 * k) (omega arith) (omega arith))
 
   zero-files : (ps : List MappedPage) → AllMappable ps → ZeroWithoutFile ps
   zero-files [] c = tt
@@ -205,27 +205,31 @@ module _ (c : Case) where
   module _ (start count : ℕ) (old : List ℕ) where
     pub refused-case-map : (x : Fault) → checkOf c ≡ refused x → (r : Written) → r ≡ faultWritten x → MapAnswer c start count old r old
     unfolding mapCall
-    refused-case-map x e r g = record { same = rw (e, g); demand3 = rw e tt; grounded = refused-grounded c x e }
+    refused-case-map x e r g = record { same = rw (e, g); demand3 = rw e tt; grounded = case-grounded c }
 
     module _ (space : AddressSpace) (n : ℕ) (rows : List ℕ) (q : Accepted c space n rows) where
       abbrev world : World
       world = worldOf (q .sheet) (c .image) (c .pagefile)
 
-      pub refused-range : allowed start count ≡ false → (r : Written) → r ≡ notWritten BadMapRange → MapAnswer c start count old r old
+      -- the mode that the code judges by is the sheet's
+      same-range : allowed (q .sheet .space .mode) start count ≡ allowed (space .mode) start count
+      same-range = ap (λ (w : World). allowed (w .space .mode) start count) (sym (q .world)) ∙ placed-allowed (space .mode) start count
+
+      pub refused-range : allowed (space .mode) start count ≡ false → (r : Written) → r ≡ notWritten BadMapRange → MapAnswer c start count old r old
       unfolding mapCall
       refused-range h r g = record {
-        same = rw (q .check, h, g);
-        demand3 = rw (q .check) (λ e. absurd (let z : true ≡ false = sym e ∙ h in let y : _≡_ {A = ℕ} 0 1 = cc in omega arith));
-        grounded = accepted-grounded c space n rows q;
+        same = rw (q .check, same-range, h, g);
+        demand3 = rw (q .check) (λ e. absurd (let z : true ≡ false = sym e ∙ same-range ∙ h in let y : _≡_ {A = ℕ} 0 1 = cc in omega arith));
+        grounded = case-grounded c;
       }
 
-      pub mapped : allowed start count ≡ true → (r : Written) (new : List ℕ)
+      pub mapped : allowed (space .mode) start count ≡ true → (r : Written) (new : List ℕ)
           → record { answer = r; buffer = new } ≡ mapOutcome (rowsWorld (take n rows) space (c .image) (c .pagefile)) start count old → MapAnswer c start count old r new
       unfolding mapCall
       mapped h r new e =
           let e′ : record { answer = r; buffer = new } ≡ mapOutcome world start count old = rw (q .world) at e in
           record {
-            same = rw (q .check, h) e′;
-            demand3 = rw (q .check) (λ x. rw e′ (demand3 world (q .sound) (small-image space n rows q) start count h old));
-            grounded = accepted-grounded c space n rows q;
+            same = rw (q .check, same-range, h) e′;
+            demand3 = rw (q .check) (λ x. rw e′ (demand3 world (q .sound) (small-image space n rows q) start count (same-range ∙ h) old));
+            grounded = case-grounded c;
           }

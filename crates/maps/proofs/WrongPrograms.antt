@@ -7,10 +7,10 @@ use lib.ListN.{replicate}
 use Rattle.base.specs.Codes.{isCode}
 use Rattle.varint.specs.Groups.{decode, number}
 use Rattle.varint.specs.Edition.{edition, editionFields}
-use Rattle.words.specs.Words.{wordAt}
+use Rattle.words.specs.Words.{wordAt, littleAt}
 use Rattle.entry.specs.Pages.{frame}
-use Rattle.entry.specs.Addresses.{reachable}
-use Rattle.entry.specs.Entry.{levelOf, leafOf, upperOf}
+use Rattle.entry.specs.Addresses.{reachable, reachableIn}
+use Rattle.entry.specs.Entry.{levelOf, leafOf, leafIn, upperOf}
 use Rattle.sheet.specs.Sheet.{spaceAt}
 use Rattle.walk.specs.Walk.{World, worldOf, frameIn, settleOf, descendOf, resolveOf}
 use Rattle.map_format.specs.Extents.{pageAfter}
@@ -32,7 +32,7 @@ unfolding first-right lookupOf mapFields headerFields editionFields edition exte
 map-says = refl
 
 walk-says : walkAnswer one-page 0x1000 .number ≡ 22
-unfolding one-page levelOf leafOf upperOf frameIn settleOf resolveOf reachable descendOf wordAt
+unfolding one-page levelOf leafOf leafIn upperOf frameIn settleOf resolveOf reachable reachableIn descendOf littleAt
 walk-says = refl
 
 pub first-extent-only-refused : (old : List ℕ) → Demand3 one-page 0 2 old (record { answer = record { number = 0; length = 6 }; buffer = first-right }) → ⊥

@@ -24,10 +24,10 @@ mapOutcome w start count out =
 -- the sheet, then 40, then 44
 unfoldable pub mapCall : Case → ℕ → ℕ → List ℕ → WriteOutcome
 mapCall c start count out = inCase c (faultOutcome out) λ w.
-    if allowed start count then mapOutcome w start count out else unwritten out BadMapRange
+    if allowed (w .space .mode) start count then mapOutcome w start count out else unwritten out BadMapRange
 
 -- the map call's promise: what it hands back, demand 3 for an allowed range, and that the walk rests on what the files hold
 pub record MapAnswer (c : Case) (start count : ℕ) (old : List ℕ) (r : Written) (new : List ℕ) : Type 0 where
   pub same : record { answer = r; buffer = new } ≡ mapCall c start count old
-  pub demand3 : ForAccepted c (λ w. allowed start count ≡ true → Demand3 w start count old (record { answer = r; buffer = new }))
+  pub demand3 : ForAccepted c (λ w. allowed (w .space .mode) start count ≡ true → Demand3 w start count old (record { answer = r; buffer = new }))
   pub grounded : (a : ℕ) → GroundedAt c a

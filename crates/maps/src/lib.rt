@@ -4,6 +4,7 @@ use base::Refusal;
 use base::TOP_ADDRESS;
 use base::Written;
 use case::Opened;
+use entry::PagingMode;
 use entry::VirtualPage;
 use map_format::Builder;
 use map_format::Header;
@@ -18,7 +19,7 @@ ghost use Rattle.base.specs.Overlay.{Wrote};
 ghost use Rattle.walk.specs.Rows.{rowsWorld};
 ghost use Rattle.case.specs.Case.{caseOf};
 ghost use Rattle.case.specs.Inner.{rowNumbers};
-ghost use Rattle.maps.specs.MapOf.{allowed, mappedPageOf, mapOf};
+ghost use Rattle.maps.specs.MapOf.{allowed, allowedWide, allowedNarrow, mappedPageOf, mapOf};
 ghost use Rattle.maps.specs.Call.{mapOutcome, MapAnswer};
 
 // 01 "One address": canonical addresses lie below this one ..
@@ -26,6 +27,9 @@ const LOWER_HALF_END: u64 = 0x800000000000;
 
 // .. or from this one on, up to the top.
 const UPPER_HALF: u64 = 0xFFFF800000000000;
+
+// 02, order 7: the addresses of a 32-bit profile lie below 2^32.
+const NARROW_END: u64 = 0x100000000;
 
 // The map of a range into the lent buffer.
 pub fn map_range(
@@ -62,7 +66,8 @@ fn map_over(
     match case::open_case(sheet, image, pagefile, rows) {
         Opened::Refused(fault) => base::fault_written(fault),
         Opened::Ready(space, n) => {
-            if !is_allowed(start, pages) {
+            let mode = space.mode;
+            if !is_allowed(mode, start, pages) {
                 return base::not_written(Refusal::BadMapRange);
             }
             map_in(&rows[..n], image, pagefile, space, start, pages, out)
@@ -80,7 +85,7 @@ fn map_in(
     pages: u64,
     out: &mut [u8],
 ) -> Written
-    requires { ⌜ (allowed start pages ≡ true) × (length (now image) ≤ 2 ^ 48) ⌝ }
+    requires { ⌜ (allowed (space .mode) start pages ≡ true) × (length (now image) ≤ 2 ^ 48) ⌝ }
     ensures { λ r. ⌜ record { answer = r; buffer = now (out .exit) } ≡ mapOutcome (rowsWorld (now (rows .entry)) space (now (image .entry)) (now (pagefile .entry))) start pages (now (out .entry)) ⌝ }
 {
     let none = 0;
@@ -95,9 +100,36 @@ fn map_in(
     }
 }
 
+// Can a range of an address space be mapped?
+fn is_allowed(mode: PagingMode, start: u64, pages: u64) -> bool
+    ensures { λ r. ⌜ r ≡ allowed mode start pages ⌝ }
+{
+    match mode {
+        PagingMode::FourLevel => is_allowed_wide(start, pages),
+        PagingMode::Plain => is_allowed_narrow(start, pages),
+        PagingMode::Pae(_) => is_allowed_narrow(start, pages),
+    }
+}
+
+// Whole pages, at least one, that end at or below 2^32.
+fn is_allowed_narrow(start: u64, pages: u64) -> bool
+    ensures { λ r. ⌜ r ≡ allowedNarrow start pages ⌝ }
+{
+    if start % PAGE_BYTES != 0 {
+        return false;
+    }
+    if pages < 1 {
+        return false;
+    }
+    if NARROW_END < start {
+        return false;
+    }
+    pages <= (NARROW_END - start) / PAGE_BYTES
+}
+
 // 1 to 2^20 whole pages, all canonical and in one half.
-fn is_allowed(start: u64, pages: u64) -> bool
-    ensures { λ r. ⌜ r ≡ allowed start pages ⌝ }
+fn is_allowed_wide(start: u64, pages: u64) -> bool
+    ensures { λ r. ⌜ r ≡ allowedWide start pages ⌝ }
 {
     if start % PAGE_BYTES != 0 {
         return false;
@@ -127,7 +159,7 @@ fn write_map(
     pages: u64,
     out: &mut [u8],
 ) -> usize
-    requires { ⌜ (allowed start pages ≡ true) × (length (now image) ≤ 2 ^ 48) ⌝ }
+    requires { ⌜ (allowed (space .mode) start pages ≡ true) × (length (now image) ≤ 2 ^ 48) ⌝ }
     ensures { λ r. ⌜ Wrote (now (out .entry)) 0 (mapOf (rowsWorld (now (rows .entry)) space (now (image .entry)) (now (pagefile .entry))) start pages) r (now (out .exit)) ⌝ }
 {
     let header = Header {

@@ -7,7 +7,7 @@ use lib.ListN.{replicate}
 use Rattle.base.specs.Example.{Example, same, Hold}
 use Rattle.base.specs.Written.{unwritten, written}
 use Rattle.base.specs.declared.Refusal.the-variants.{ImageNotWholePages}
-use Rattle.words.specs.Words.{wordAt}
+use Rattle.words.specs.Words.{wordAt, littleAt}
 use Rattle.pool.specs.Pool.{isHeader, headersFrom}
 use Rattle.pool.specs.Call.{headersCall}
 
@@ -45,7 +45,7 @@ headers =
     ∷ []
 
 pub headers-hold : Hold headers
-unfolding headers isHeader wordAt
+unfolding headers isHeader littleAt
 headers-hold = (refl, (refl, (refl, (refl, (refl, (refl, (refl, (refl, (refl, tt)))))))))
 
 pub calls : List Example

@@ -10,7 +10,7 @@ use lib.Seq.{take-append-le, drop-append-le, drop-append-add}
 use borrow.Author.Tests.{leb-true, leb-false, eqb-true, lt-ltb, le-ltb}
 use Rattle.base.specs.Notation.{if_then_else_, bits}
 use Rattle.base.proofs.Test.{Test, test, below, above}
-use Rattle.words.specs.Words.{wordAt}
+use Rattle.words.specs.Words.{wordAt, littleAt}
 use Rattle.pool.specs.Pool.{previousSize, blockSize, blockEnd, isHeader, headersFrom, headersOf}
 
 -- ---- tests that are the same, where those before them hold
@@ -89,13 +89,13 @@ headers-append s (suc m) n o =
 
 module _ (a b : List ℕ) where
   word-in-first : (o : ℕ) → o + 8 ≤ length a → wordAt (a ++ b) o ≡ wordAt a o
-  unfolding wordAt
+  unfolding littleAt
   word-in-first o l =
       let room : 8 ≤ length (drop o a) = rw length-drop (omega arith) in
       rw (drop-append-le o a b (omega arith), take-append-le 8 (drop o a) b room)
 
   word-in-second : (o : ℕ) → wordAt (a ++ b) (length a + o) ≡ wordAt b o
-  unfolding wordAt
+  unfolding littleAt
   word-in-second o = rw drop-append-add
 
   module _ (pages : length a % 4096 ≡ 0) where

@@ -17,8 +17,8 @@ use Rattle.sheet.specs.declared.AddressSpace.{AddressSpace}
 use Rattle.walk.specs.Walk.{World, worldOf, resolveOf}
 use Rattle.walk.specs.Rows.{rowsWorld}
 use Rattle.walk.proofs.Ground.{word-inside, resolve-at}
-use Rattle.case.specs.Case.{Case, checkOf}
-use Rattle.case.proofs.Opening.{Accepted, refused-grounded, accepted-grounded}
+use Rattle.case.specs.Case.{Case, checkOf, served}
+use Rattle.case.proofs.Opening.{AcceptedFour, case-grounded}
 use Rattle.process_list.specs.declared.Followed.{Followed}
 use Rattle.process_list.specs.declared.Followed.the-variants.{Closed}
 use Rattle.process_list.specs.declared.Followed.the-variants as followed
@@ -62,21 +62,21 @@ module _ (ns : Nodes) (old last : List ℕ) (r : Followed) (p : Pass ns [] r las
 -- ---- the call
 
 module _ (c : Case) (h : ℕ) (old : List ℕ) where
-  pub refused-case-list : (x : Fault) → checkOf c ≡ reader.refused x → (r : Written) → r ≡ faultWritten x → ListAnswer c h old r old
+  pub refused-case-list : (x : Fault) → served (checkOf c) ≡ reader.refused x → (r : Written) → r ≡ faultWritten x → ListAnswer c h old r old
   unfolding listOf
-  refused-case-list x e r g = record { same = rw (e, g); exact = rw e tt; found = rw e tt; grounded = refused-grounded c x e }
+  refused-case-list x e r g = record { same = rw (e, g); exact = rw e tt; found = rw e tt; grounded = case-grounded c }
 
-  module _ (space : AddressSpace) (n : ℕ) (rows : List ℕ) (q : Accepted c space n rows) where
+  module _ (space : AddressSpace) (n : ℕ) (rows : List ℕ) (q : AcceptedFour c space n rows) where
     abbrev world : World
-    world = worldOf (q .sheet) (c .image) (c .pagefile)
+    world = worldOf (q .case .sheet) (c .image) (c .pagefile)
 
     answered : (r : Written) (new : List ℕ) → record { answer = r; buffer = new } ≡ nodesOutcome old (nodesOf world (length old) h) → ListAnswer c h old r new
     unfolding listOf
     answered r new e = record {
       same = rw (q .check) e;
       exact = rw (q .check, e) (exact-list world h old);
-      found = rw (q .check) (λ a z. word-inside world a (resolveOf 3 world a .place) z (resolve-at world (q .sound) 3 a));
-      grounded = accepted-grounded c space n rows q;
+      found = rw (q .check) (λ a z. word-inside world a (resolveOf 3 world a .place) z (resolve-at world (q .case .sound) 3 a));
+      grounded = case-grounded c;
     }
 
     pub unaligned-head : (h % 8 ≡ 0 → ⊥) → (r : Written) → r ≡ notWritten LinkUnaligned → ListAnswer c h old r old
@@ -86,4 +86,4 @@ module _ (c : Case) (h : ℕ) (old : List ℕ) where
     pub list-answered : h % 8 ≡ 0 → (r : Written) (new : List ℕ)
         → record { answer = r; buffer = new } ≡ nodesOutcome old (nodesAfter 4096 (rowsWorld (take n rows) space (c .image) (c .pagefile)) (length old) h h) → ListAnswer c h old r new
     unfolding nodesOf
-    list-answered a r new e = answered r new (rw (eq-eqb (h % 8) 0 a) (rw (q .world) at e))
+    list-answered a r new e = answered r new (rw (eq-eqb (h % 8) 0 a) (rw (q .case .world) at e))

@@ -10,12 +10,12 @@ use Rattle.base.specs.declared.Refusal.the-variants.{BackLinkDiffers, ListBuffe
 use Rattle.varint.specs.Reader.{Read, got}
 use Rattle.varint.specs.Reader as read
 use Rattle.entry.specs.Pages.{frame}
-use Rattle.entry.specs.Addresses.{reachable}
-use Rattle.entry.specs.Entry.{levelOf, leafOf, upperOf}
-use Rattle.words.specs.Words.{wordAt}
+use Rattle.entry.specs.Addresses.{reachable, reachableIn}
+use Rattle.entry.specs.Entry.{levelOf, leafOf, leafIn, upperOf}
+use Rattle.words.specs.Words.{wordAt, littleAt}
 use Rattle.sheet.specs.Sheet.{Sheet, spaceAt}
 use Rattle.walk.specs.Walk.{World, worldOf, frameIn, settleOf, descendOf, resolveOf}
-use Rattle.case.specs.Case.{Case, checkOf, byCheck, inCase}
+use Rattle.case.specs.Case.{Case, checkOf, byCheck, served, inFourLevels}
 use Rattle.process_list.specs.List.{nodes, refused, linkOf, nextNode, nodesAfter, nodesOf}
 use Rattle.process_list.specs.Call.{nodesOutcome, listOf}
 use Rattle.process_list.specs.Exact.{Follows}
@@ -40,9 +40,9 @@ record Asked : Type 0 where
   head : ℕ
   buffer : List ℕ
 
--- the case is accepted, and the head, a multiple of 8, links to itself both ways
+-- the case of four levels is accepted, and the head, a multiple of 8, links to itself both ways
 LinksToItself : Asked → Type 0
-LinksToItself x = inCase (x .case) (λ r. ⊥) (λ w. Follows w (x .head) (x .head))
+LinksToItself x = inFourLevels (x .case) (λ r. ⊥) (λ w. Follows w (x .head) (x .head))
 
 -- zero nodes, and the buffer stays
 pub p11 : List Example
@@ -52,8 +52,8 @@ p11 =
     ∷ []
 
 pub p11-holds : Hold p11
-unfolding p11 LinksToItself listOf linked word levelOf leafOf upperOf frameIn settleOf resolveOf reachable descendOf wordAt linkOf nextNode nodesAfter nodesOf
-p11-holds = (λ x f. go x (checkOf (x .case)) f, (refl, tt))
+unfolding p11 LinksToItself listOf linked word levelOf leafOf leafIn upperOf frameIn settleOf resolveOf reachable reachableIn descendOf littleAt linkOf nextNode nodesAfter nodesOf
+p11-holds = (λ x f. go x (served (checkOf (x .case))) f, (refl, tt))
   where
     go : (x : Asked) (d : Read Sheet) → byCheck (x .case) (λ f. ⊥) (λ w. Follows w (x .head) (x .head)) d
         → byCheck (x .case) (faultOutcome (x .buffer)) (λ w. nodesOutcome (x .buffer) (nodesOf w (length (x .buffer)) (x .head))) d ≡ written (x .buffer) []
@@ -79,5 +79,5 @@ lists =
     ∷ []
 
 pub lists-hold : Hold lists
-unfolding lists linked word levelOf leafOf upperOf frameIn settleOf resolveOf reachable descendOf wordAt linkOf nextNode nodesAfter nodesOf
+unfolding lists linked word levelOf leafOf leafIn upperOf frameIn settleOf resolveOf reachable reachableIn descendOf littleAt linkOf nextNode nodesAfter nodesOf
 lists-hold = (refl, (refl, (refl, (refl, (refl, (refl, tt))))))

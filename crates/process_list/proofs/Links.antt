@@ -11,7 +11,7 @@ use Rattle.base.specs.declared.Refusal.{Refusal}
 use Rattle.base.specs.declared.Refusal.the-variants.{NotCanonical, LinkUnaligned, BackLinkDiffers}
 use Rattle.sheet.specs.declared.AddressSpace.{AddressSpace}
 use Rattle.walk.specs.Walk.{World, resolveOf}
-use Rattle.entry.specs.Addresses.{reachable}
+use Rattle.entry.proofs.Addresses.{past-top}
 use Rattle.walk.specs.Rows.{rowsWorld, resolvedOf, WordInside}
 use Rattle.walk.specs.declared.Place.{Place}
 use Rattle.walk.specs.declared.Resolved.{Resolved}
@@ -34,12 +34,7 @@ word-placed rows space image pagefile a v e h p f = rw f at (word-found rows spa
 -- past the top nothing can be read
 pub link-past-top : (w : World) (a : ℕ) → 2 ^ 64 ≤ a → linked.Refused NotCanonical ≡ linkOf w a
 unfolding linkOf
-link-past-top w a h =
-    let no : reachable a ≡ false = unreachable in
-    rw (body 3 w a, no)
-  where
-    unreachable : reachable a ≡ false
-    unreachable = unfold reachable in rw (le-ltb a (2 ^ 64) h)
+link-past-top w a h = rw (body 3 w a, past-top (w .space .mode) a h)
 
 module _ (w : World) (x : ℕ) where
   pub forward-broken : (r : Refusal) → linkOf w x ≡ linked.Refused r → linked.Refused r ≡ nextNode w x

@@ -61,7 +61,7 @@ fn list_over(
     requires { ⌜ rowNumbers (caseOf (now sheet) (now image) (now pagefile)) ≤ length (now rows) ⌝ }
     ensures { λ r. ⌜ ListAnswer (caseOf (now (sheet .entry)) (now (image .entry)) (now (pagefile .entry))) head (now (out .entry)) r (now (out .exit)) ⌝ }
 {
-    match case::open_case(sheet, image, pagefile, rows) {
+    match case::open_four_levels(sheet, image, pagefile, rows) {
         Opened::Refused(fault) => base::fault_written(fault),
         Opened::Ready(space, n) => {
             if head % 8 != 0 {

@@ -10,6 +10,7 @@ use borrow.Author.Tests.{lt-ltb, le-ltb, le-leb, lt-leb, eq-eqb, ne-eqb}
 use Rattle.base.proofs.Test.{Test, test, below, above}
 use Rattle.entry.specs.Pages.{frame}
 use Rattle.entry.specs.declared.Frame.{Frame}
+use Rattle.entry.specs.declared.PagingMode.the-variants.{FourLevel}
 use Rattle.sheet.specs.declared.AddressSpace.{AddressSpace}
 use Rattle.walk.specs.Walk.{World, resolveOf}
 use Rattle.walk.specs.Rows.{rowsWorld, resolvedOf}
@@ -114,6 +115,6 @@ abbrev pub OwnWalk : List ℕ → List ℕ → List ℕ → ℕ → Resolved →
 OwnWalk rows image pagefile o r = (space : AddressSpace) → r ≡ resolvedOf (selfWalk (rowsWorld rows space image pagefile) o)
 
 pub own-walk : (rows image pagefile : List ℕ) (o own word : ℕ) (f : Frame) (r : Resolved) → own ≡ selfWord image o → word ≡ directoryWord image o
-    → f ≡ frame (word / 4096 % 68719476736) → r ≡ resolvedOf (resolveOf 3 (rowsWorld rows (record { directory = f }) image pagefile) own) → OwnWalk rows image pagefile o r
+    → f ≡ frame (word / 4096 % 68719476736) → r ≡ resolvedOf (resolveOf 3 (rowsWorld rows (record { directory = f; mode = FourLevel }) image pagefile) own) → OwnWalk rows image pagefile o r
 unfolding selfWalk
 own-walk rows image pagefile o own word f r e g h q space = q ∙ rw (h, e, g)

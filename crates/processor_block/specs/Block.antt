@@ -8,6 +8,7 @@ use Rattle.base.specs.Notation.{if_then_else_, bits}
 use Rattle.base.specs.declared.Refusal.the-variants.{NoProcessorBlock}
 use Rattle.entry.specs.Entry.{frameOf}
 use Rattle.entry.specs.declared.Frame.{Frame}
+use Rattle.entry.specs.declared.PagingMode.the-variants.{FourLevel}
 use Rattle.words.specs.Words.{wordAt}
 use Rattle.walk.specs.Walk.{World, Walked, resolveOf}
 use Rattle.walk.specs.declared.Place.{Place}
@@ -36,9 +37,9 @@ wordsFit image o =
     && (eqb (prcbWord image o) (selfWord image o + 0x180)
     && eqb (bits (directoryWord image o) 48 51) 0)))
 
--- the same world with another directory page
+-- the same world with four levels from another directory page
 abbrev pub withDirectory : Frame → World → World
-withDirectory d w = record { space = record { directory = d }; page = w .page; image = w .image; pagefile = w .pagefile }
+withDirectory d w = record { space = record { directory = d; mode = FourLevel }; page = w .page; image = w .image; pagefile = w .pagefile }
 
 -- where Self leads, with the block's own directory page
 unfoldable pub selfWalk : World → ℕ → Walked

@@ -7,13 +7,13 @@ use Rattle.base.specs.Refusal.{refusalNumber}
 use Rattle.base.specs.declared.Refusal.the-variants.{NoProcessorBlock}
 use Rattle.entry.specs.Entry.{frameOf}
 use Rattle.walk.specs.Walk.{World, Grounded}
-use Rattle.case.specs.Case.{Case, inCase, ForAccepted}
+use Rattle.case.specs.Case.{Case, inFourLevels, ForFourLevels}
 use Rattle.case.specs.Answer.{refusal, faultAnswer}
 use Rattle.case.specs.declared.Answer.{Answer}
 use Rattle.processor_block.specs.Block.{directoryWord, withDirectory, selfWalk, isBlock, blockFrom}
 
 unfoldable pub blockOf : Case → ℕ → Answer
-blockOf c from = inCase c faultAnswer (λ w. blockFrom w from)
+blockOf c from = inFourLevels c faultAnswer (λ w. blockFrom w from)
 
 -- the words of a block at an offset lie in the image, and its Self rests on what the files hold
 pub record GroundedCandidate (w : World) (o : ℕ) : Type 0 where
@@ -35,6 +35,6 @@ pub record ExactBlock (w : World) (from : ℕ) (r : Answer) : Type 0 where
 -- the search's promise: what it hands back, what that means, and that every candidate rests on what the files hold
 pub record BlockAnswer (c : Case) (from : ℕ) (r : Answer) : Type 0 where
   pub same : r ≡ blockOf c from
-  pub exact : ForAccepted c (λ w. ExactBlock w from r)
+  pub exact : ForFourLevels c (λ w. ExactBlock w from r)
   -- found or not: wherever `isBlock` goes by words
-  pub candidates : ForAccepted c (λ w. (o : ℕ) → from ≤ o → o < length (w .image) → o % 8 ≡ 0 → o % 4096 ≤ 0xE28 → GroundedCandidate w o)
+  pub candidates : ForFourLevels c (λ w. (o : ℕ) → from ≤ o → o < length (w .image) → o % 8 ≡ 0 → o % 4096 ≤ 0xE28 → GroundedCandidate w o)

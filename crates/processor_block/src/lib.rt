@@ -3,6 +3,7 @@ use base::Refusal;
 use case::Answer;
 use case::Opened;
 use entry::Frame;
+use entry::PagingMode;
 use sheet::AddressSpace;
 use walk::Place;
 ghost use mathlib.Core.Path.{_≡_};
@@ -36,7 +37,7 @@ fn search_over(sheet: &[u8], image: &[u8], pagefile: &[u8], rows: &mut [u64], fr
     requires { ⌜ rowNumbers (caseOf (now sheet) (now image) (now pagefile)) ≤ length (now rows) ⌝ }
     ensures { λ r. ⌜ BlockAnswer (caseOf (now (sheet .entry)) (now (image .entry)) (now (pagefile .entry))) from r ⌝ }
 {
-    match case::open_case(sheet, image, pagefile, rows) {
+    match case::open_four_levels(sheet, image, pagefile, rows) {
         Opened::Refused(fault) => case::fault_answer(fault),
         Opened::Ready(_, n) => search(&rows[..n], image, pagefile, from),
     }
@@ -54,7 +55,8 @@ fn search(rows: &[u64], image: &[u8], pagefile: &[u8], from: u64) -> Answer
         if words_fit(image, o) {
             let own = words::word_at(image, o + 0x18);
             let directory = Frame::of_entry(words::word_at(image, o + 0x1D0));
-            let space = AddressSpace { directory };
+            let mode = PagingMode::FourLevel;
+            let space = AddressSpace { directory, mode };
             let found = walk::resolve_in(rows, image, pagefile, space, own);
             let entries = found.entries;
             let place = found.place;

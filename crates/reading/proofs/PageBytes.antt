@@ -14,7 +14,7 @@ use Rattle.base.specs.declared.Refusal.the-variants.{NotCanonical}
 use Rattle.base.proofs.Overlay.{sets-append}
 use Rattle.sheet.specs.declared.AddressSpace.{AddressSpace}
 use Rattle.walk.specs.Walk.{World, resolveOf}
-use Rattle.entry.specs.Addresses.{reachable}
+use Rattle.entry.proofs.Addresses.{past-top as unreachable}
 use Rattle.walk.specs.Rows.{rowsWorld, nextOf, resolvedOf}
 use Rattle.walk.specs.declared.Place.{Place}
 use Rattle.walk.specs.declared.Place.the-variants.{Image, Pagefile, Zeros, Refused}
@@ -110,12 +110,7 @@ module _ (w : World) where
   -- past the top no byte can be read
   past-top : (n a : ℕ) → 2 ^ 64 ≤ a → bytesOf (suc n) w a ≡ refused NotCanonical
   unfolding bytesOf
-  past-top n a h =
-      let no : reachable a ≡ false = unreachable in
-      rw (body 3 w a, no)
-    where
-      unreachable : reachable a ≡ false
-      unreachable = unfold reachable in rw (le-ltb a (2 ^ 64) h)
+  past-top n a h = rw (body 3 w a, unreachable (w .space .mode) a h)
 
 piece-long : (image pagefile : List ℕ) (m : ℕ) (p : Place) (xs : List ℕ) (z : Bool) → PieceInside image pagefile m p → pieceOf image pagefile m p ≡ bytes xs z → length xs ≡ m
 piece-long image pagefile m (Image o) xs z h e =

@@ -15,7 +15,7 @@ use Rattle.sheet.specs.declared.AddressSpace.{AddressSpace}
 use Rattle.walk.specs.Rows.{rowsWorld}
 use Rattle.case.specs.Case.{Case, checkOf}
 use Rattle.case.specs.Answer.{GroundedAt}
-use Rattle.case.proofs.Opening.{Accepted, refused-grounded, accepted-grounded}
+use Rattle.case.proofs.Opening.{Accepted, case-grounded}
 use Rattle.reading.specs.Bytes.{Bytes, bytes, refused, bytesOf}
 use Rattle.reading.specs.Call.{ReadOutcome, refusedBytes, faultBytes, doneBytes, readAll, readOf, ReadAnswer}
 use Rattle.reading.specs.Inner.{filledOf, BytesLaid, FilledWith}
@@ -54,11 +54,11 @@ module _ (b : Bytes) (n : ℕ) (old last : List ℕ) (r : Filled) (f : FilledWit
 module _ (c : Case) (a n : ℕ) (old : List ℕ) where
   pub refused-case-read : (x : Fault) → checkOf c ≡ reader.refused x → (r : BytesRead) → r ≡ faultBytes x → ReadAnswer c a n old r old
   unfolding readOf
-  refused-case-read x e r g = record { same = rw (e, g); grounded = λ k. refused-grounded c x e (a + k) }
+  refused-case-read x e r g = record { same = rw (e, g); grounded = λ k. case-grounded c (a + k) }
 
   module _ (space : AddressSpace) (k : ℕ) (rows : List ℕ) (q : Accepted c space k rows) where
     every-byte : (i : ℕ) → GroundedAt c (a + i)
-    every-byte i = accepted-grounded c space k rows q (a + i)
+    every-byte i = case-grounded c (a + i)
 
     pub short-read : length old < n → (r : BytesRead) → r ≡ refusedBytes ReadBufferShort → ReadAnswer c a n old r old
     unfolding readOf

@@ -1,24 +1,47 @@
 -- A sheet refused by 11 or 18 at a position: the number that begins there is refused so, and every number before it was read.
 use mathlib.Core.Path.{_≡_}
+use mathlib.Core.Bool.{Bool, true, false}
 use mathlib.Core.List.{List, []}
 use Prim.Native.Nat.{ℕ, zero, suc, _+_, _*_, _%_, _^_}
 use native.Mathlib.Omega.{arith}
 use lib.Dec.{ltb, leb, eqb}
 use lib.ListN.{length}
-use Rattle.base.specs.Notation.{within}
+use Rattle.base.specs.Notation.{if_then_else_, within}
 use Rattle.base.specs.declared.Fault.{Fault}
 use Rattle.base.specs.declared.Refusal.the-variants.{OutOfLimits, BadRun, TrailingBytes, ImageLengthDiffers, PagefileNotWholePages}
-use Rattle.varint.specs.Reader.{refused}
+use Rattle.varint.specs.Reader.{refused, return}
 use Rattle.varint.specs.Groups.{number}
-use Rattle.varint.specs.Edition.{editionFields}
-use Rattle.varint.proofs.Placed.{Blamed, AtFault, Placed, here, then-placed, need-placed, not-blamed, number-placed, fields-placed}
-use Rattle.sheet.specs.Sheet.{header, runFrom, runsFrom, endOf, runPages, ownFields, sheetFields, sheetOf}
+use Rattle.varint.proofs.Placed.{Blamed, AtFault, Placed, here, then-placed, need-placed, not-blamed, number-placed}
+use Rattle.entry.specs.declared.PagingMode.the-variants.{FourLevel}
+use Rattle.sheet.specs.Sheet.{isPlace, modeFields, modeBy, header, runFrom, runsFrom, endOf, runPages, ownFields, sheetFields, sheetOf}
+
+out-of-limits : Blamed OutOfLimits → ⊥
+out-of-limits = not-blamed OutOfLimits (λ e. omega (arith, e)) (λ e. omega (arith, e))
+
+mode-placed : (s : List ℕ) (at : ℕ) → Placed s at (modeFields s at)
+unfolding modeFields
+mode-placed s at =
+    then-placed s at _ (number s at) (number-placed s at) λ mode a.
+    need-placed s a _ (within 1 2 mode) OutOfLimits out-of-limits λ x b.
+    then-placed s b _ (number s b) (number-placed s b) λ place c.
+    need-placed s c _ (isPlace mode place) OutOfLimits out-of-limits (λ y d. here d)
+
+by-placed : (edition : ℕ) (s : List ℕ) (at : ℕ) → Placed s at (modeBy edition s at)
+by-placed edition s at = go (eqb edition 1)
+  where
+    go : (b : Bool) → Placed s at ((if b then return FourLevel else modeFields) s at)
+    go true = here at
+    go false = mode-placed s at
 
 header-placed : (s : List ℕ) (at : ℕ) → Placed s at (header s at)
 unfolding header
 header-placed s at =
-    then-placed s at _ (editionFields s at) (fields-placed s at) λ f a.
-    need-placed s a _ (within 1 1000 (f .second)) OutOfLimits (not-blamed OutOfLimits (λ e. omega (arith, e)) (λ e. omega (arith, e))) (λ x b. here b)
+    then-placed s at _ (number s at) (number-placed s at) λ edition a.
+    need-placed s a _ (within 1 2 edition) OutOfLimits out-of-limits λ x b.
+    then-placed s b _ (number s b) (number-placed s b) λ directory c.
+    then-placed s c _ (modeBy edition s c) (by-placed edition s c) λ mode d.
+    then-placed s d _ (number s d) (number-placed s d) λ count f.
+    need-placed s f _ (within 1 1000 count) OutOfLimits out-of-limits (λ y g. here g)
 
 bad-run : Blamed BadRun → ⊥
 bad-run = not-blamed BadRun (λ e. omega (arith, e)) (λ e. omega (arith, e))

@@ -1,35 +1,46 @@
--- How many runs a sheet has: few if it has few bytes, for three numbers before the runs and two a run take a byte each at least; few if its count says so.
-use mathlib.Core.Path.{_≡_, sym, ap, _∙_}
+-- How many runs a sheet has: few if it has few bytes, for three numbers at least before the runs and two a run take a byte each at least; few if its count says so.
+use mathlib.Core.Path.{_≡_, refl, sym, ap, _∙_}
 use mathlib.Core.List.{List, [], _∷_}
-use mathlib.Core.Bool.{true}
-use Prim.Native.Nat.{ℕ, zero, suc, _+_, _*_, _^_, _≤_}
+use mathlib.Core.Bool.{Bool, true, false, and-false}
+use Prim.Native.Nat.{ℕ, zero, suc, _+_, _*_, _^_, _≤_, _<_}
 use native.Mathlib.Omega.{arith}
 use lib.Dec.{leb, ltb}
 use lib.ListN.{length}
-use borrow.Author.Tests.{leb-true}
-use Rattle.base.specs.Notation.{within}
+use borrow.Author.Tests.{leb-true, le-leb, lt-leb, lt-ltb, le-ltb}
+use Rattle.base.specs.Notation.{if_then_else_, within}
+use Rattle.base.specs.Refusal.{unplaced}
 use Rattle.base.specs.declared.Fault.{Fault}
 use Rattle.base.specs.declared.Refusal.the-variants.{OutOfLimits, BadRun}
-use Rattle.varint.specs.Reader.{got, refused}
+use Rattle.base.proofs.Test.{Test, test, below, above}
+use Rattle.varint.specs.Reader.{Read, got, refused}
 use Rattle.varint.specs.Groups.{number}
-use Rattle.varint.specs.Edition.{EditionFields, editionFields}
 use Rattle.varint.proofs.Reader.{came, held, returned}
-use Rattle.varint.proofs.Onward.{field-onward, fields-onward}
+use Rattle.varint.proofs.Onward.{field-onward}
 use Rattle.entry.specs.Pages.{frame}
-use Rattle.sheet.specs.Sheet.{spaceAt, header, runFrom, runsFrom, endOf, Sheet, sheetOf}
-use Rattle.sheet.specs.Inner.{fewRuns}
+use Rattle.entry.specs.declared.PagingMode.{PagingMode}
+use Rattle.sheet.specs.Sheet.{header, runFrom, runsFrom, endOf, Sheet, sheetOf}
+use Rattle.sheet.specs.Inner.{headerRead, fewRuns, fieldsRead}
 use Rattle.sheet.specs.declared.Header.{Header}
+use Rattle.sheet.specs.declared.HeaderRead.{HeaderRead}
+use Rattle.sheet.specs.declared.HeaderRead.the-variants.{Fields, Refused}
 use Rattle.sheet.specs.declared.Run.{Run}
+use Rattle.sheet.proofs.HeaderFields.{ModeField, none, two, header-parts}
 use Rattle.sheet.proofs.AcceptedCase.{Runs, runs-chain, OwnParts, sheet-parts}
 
 header-onward : (s : List ℕ) (h : Header) (next : ℕ) → header s 0 ≡ got h next → 3 ≤ next
-unfolding header
 header-onward s h next e =
-    let c = came s _ (editionFields s 0) h next e in
-    let f = c .value in
-    let t = held s _ (within 1 1000 (f .second)) OutOfLimits (c .at) h next (c .rest) in
-    let same = returned (record { space = spaceAt (f .first); count = f .second }) h (c .at) next (t .1) .1 in
-    omega (arith, fields-onward s 0 f (c .at) (c .field))
+    let p = header-parts s h next e in
+    omega (
+      arith,
+      field-onward s 0 (p .edition) (p .directory-at) (p .edition-read),
+      field-onward s (p .directory-at) (h .space .directory .0) (p .mode-at) (p .directory-read),
+      mode-onward (p .mode-read),
+      field-onward s (p .count-at) (h .count) next (p .count-read),
+    )
+  where
+    mode-onward : {at n to : ℕ} {m : PagingMode} → ModeField s at n m to → at ≤ to
+    mode-onward none = omega arith
+    mode-onward {at} (two m to q) = omega (arith, field-onward s at _ (q .place-at) (q .mode-read), field-onward s (q .place-at) _ to (q .place-read))
 
 run-onward : (s : List ℕ) (at least end : ℕ) (r : Run) (next : ℕ) → runFrom least end s at ≡ got r next → at + 2 ≤ next
 unfolding runFrom
@@ -57,25 +68,46 @@ few-bytes s image pagefile t next e =
     let many : length (t .runs) ≡ p .fields .count = runs-chain (p .fields .count) 0 0 s (p .at) (t .runs) (length s) (p .runs-read) .many in
     omega (arith, many, header-onward s (p .fields) (p .at) (p .header-read), runs-onward (p .fields .count) 0 0 s (p .at) (t .runs) (length s) (p .runs-read))
 
-few-header : (s : List ℕ) (h : Header) (next : ℕ) → header s 0 ≡ got h next → fewRuns (editionFields s 0) ≡ true → h .count ≤ 32
-unfolding header
-few-header s h next e f =
-    let c = came s _ (editionFields s 0) h next e in
-    let t = held s _ (within 1 1000 (c .value .second)) OutOfLimits (c .at) h next (c .rest) in
-    let same = returned (record { space = spaceAt (c .value .first); count = c .value .second }) h (c .at) next (t .1) .0 in
-    let n : c .value .second ≡ h .count = ap (λ (x : Header). x .count) same in
-    let few : leb (c .value .second) 32 ≡ true = sym (ap fewRuns (c .field)) ∙ f in
-    omega (arith, n, leb-true (c .value .second) 32 few)
+few-header : (s : List ℕ) (h : Header) (next : ℕ) → header s 0 ≡ got h next → fewRuns (header s 0) ≡ true → h .count ≤ 32
+few-header s h next e f = leb-true (h .count) 32 (sym (ap fewRuns e) ∙ f)
 
-pub few-runs : (s : List ℕ) (image pagefile : ℕ) (t : Sheet) (next : ℕ) → sheetOf s image pagefile ≡ got t next → fewRuns (editionFields s 0) ≡ true → length (t .runs) ≤ 32
+pub few-runs : (s : List ℕ) (image pagefile : ℕ) (t : Sheet) (next : ℕ) → sheetOf s image pagefile ≡ got t next → fewRuns (header s 0) ≡ true → length (t .runs) ≤ 32
 few-runs s image pagefile t next e f =
     let p = sheet-parts s image pagefile t next e .own in
     let many : length (t .runs) ≡ p .fields .count = runs-chain (p .fields .count) 0 0 s (p .at) (t .runs) (length s) (p .runs-read) .many in
     omega (arith, many, few-header s (p .fields) (p .at) (p .header-read) f)
 
 -- what `has_few_runs` answers where the fields were read, and where they were not
-pub few-by-count : (s : List ℕ) (f : EditionFields) (next : ℕ) → editionFields s 0 ≡ got f next → leb (f .second) 32 ≡ fewRuns (editionFields s 0)
-few-by-count s f next e = sym (ap fewRuns e)
+pub few-by-count : (s : List ℕ) (h : Header) (next : ℕ) → header s 0 ≡ got h next → leb (h .count) 32 ≡ fewRuns (header s 0)
+few-by-count s h next e = sym (ap fewRuns e)
 
-pub none-by-count : (s : List ℕ) (r : Fault) → editionFields s 0 ≡ refused r → true ≡ fewRuns (editionFields s 0)
+pub none-by-count : (s : List ℕ) (r : Fault) → header s 0 ≡ refused r → true ≡ fewRuns (header s 0)
 none-by-count s r e = sym (ap fewRuns e)
+
+-- the same by the fields of edition 1, whose count is not judged yet
+abbrev few-read : HeaderRead → Bool
+few-read (Fields h next) = leb (h .count) 32
+few-read (Refused f) = true
+
+few-same : (d : Read Header) → few-read (headerRead d) ≡ fewRuns d
+few-same (got h next) = refl
+few-same (refused f) = refl
+
+module _ (directory : ℕ) (mode : PagingMode) (count next : ℕ) (s : List ℕ) (e : fieldsRead directory mode count next ≡ headerRead (header s 0)) where
+  few-fields : few-read (fieldsRead directory mode count next) ≡ fewRuns (header s 0)
+  few-fields = ap few-read e ∙ few-same (header s 0)
+
+  pub few-at-most : count ≤ 32 → leb count 32 ≡ fewRuns (header s 0)
+  few-at-most h = go (within 1 1000 count) few-fields
+    where
+      go : (b : Bool) → few-read (if b then Fields (record { space = record { directory = frame directory; mode = mode }; count = count }) next else Refused (unplaced OutOfLimits)) ≡ fewRuns (header s 0)
+          → leb count 32 ≡ fewRuns (header s 0)
+      go true f = f
+      go false f = le-leb count 32 h ∙ f
+
+  pub few-above : 32 < count → ltb 1000 count ≡ fewRuns (header s 0)
+  few-above h = go (test 1000 count)
+    where
+      go : Test 1000 count → ltb 1000 count ≡ fewRuns (header s 0)
+      go (below l) = lt-ltb 1000 count l ∙ rw (lt-leb count 1000 l, and-false) at few-fields
+      go (above l) = le-ltb 1000 count l ∙ rw (le-leb 1 count (omega arith), le-leb count 1000 l, lt-leb count 32 h) at few-fields

@@ -1,7 +1,7 @@
 -- What reading parts of a sheet finds, as the code hands it back.
 use mathlib.Core.Path.{_≡_}
 use mathlib.Core.List.{List}
-use Prim.Native.Nat.{ℕ, _+_, _-_, _*_, _%_}
+use Prim.Native.Nat.{ℕ, _+_, _-_, _*_, _%_, _≤_}
 use mathlib.Core.Bool.{Bool, true, not}
 use lib.Dec.{eqb, leb}
 use lib.ListN.{set}
@@ -10,10 +10,14 @@ use Rattle.base.specs.Notation.{if_then_else_, within}
 use Rattle.base.specs.Refusal.{unplaced}
 use Rattle.base.specs.declared.Refusal.the-variants.{OutOfLimits, ImageLengthDiffers, PagefileNotWholePages}
 use Rattle.varint.specs.Reader.{Read, got, refused}
-use Rattle.varint.specs.Edition.{EditionFields}
-use Rattle.sheet.specs.Sheet.{Sheet, spaceAt, endOf, runPages}
+use Rattle.entry.specs.Pages.{frame}
+use Rattle.entry.specs.declared.PagingMode.{PagingMode}
+use Rattle.entry.specs.declared.PagingMode.the-variants.{FourLevel, Plain, Pae}
+use Rattle.sheet.specs.Sheet.{Sheet, endOf, runPages}
 use Rattle.sheet.specs.Call.{rowsFrom, headerOf}
 use Rattle.sheet.specs.declared.Header.{Header}
+use Rattle.sheet.specs.declared.ModeRead.{ModeRead}
+use Rattle.sheet.specs.declared.ModeRead.the-variants as mode-read
 use Rattle.sheet.specs.declared.HeaderRead.{HeaderRead}
 use Rattle.sheet.specs.declared.HeaderRead.the-variants as header-read
 use Rattle.sheet.specs.declared.Run.{Run}
@@ -26,19 +30,31 @@ use Rattle.sheet.specs.declared.FieldsRead.the-variants as fields-read
 use Rattle.sheet.specs.declared.SheetRead.{SheetRead}
 use Rattle.sheet.specs.declared.SheetRead.the-variants as sheet-read
 
+-- a place in a page of 128, each of 32 bytes
+abbrev pub PlaceInPage : PagingMode → Type 0
+PlaceInPage FourLevel = Unit {0}
+PlaceInPage Plain = Unit {0}
+PlaceInPage (Pae place) = place ≤ 127
+
+abbrev pub modeRead : Read PagingMode → ModeRead
+modeRead (got m next) = mode-read.Mode m next
+modeRead (refused f) = mode-read.Refused f
+
 abbrev pub headerRead : Read Header → HeaderRead
 headerRead (got h next) = header-read.Fields h next
 headerRead (refused f) = header-read.Refused f
 
--- at most 32 runs by the fields before the runs; where they cannot be read there are none
-abbrev pub fewRuns : Read EditionFields → Bool
-fewRuns (got f next) = leb (f .second) 32
+-- at most 32 runs by the fields before the runs; where these are refused there are none
+abbrev pub fewRuns : Read Header → Bool
+fewRuns (got h next) = leb (h .count) 32
 fewRuns (refused f) = true
 
 -- the fields before the runs, with a number for the count
-abbrev pub fieldsRead : ℕ → ℕ → ℕ → HeaderRead
-fieldsRead directory count next =
-    if within 1 1000 count then header-read.Fields (record { space = spaceAt directory; count = count }) next else header-read.Refused (unplaced OutOfLimits)
+abbrev pub fieldsRead : ℕ → PagingMode → ℕ → ℕ → HeaderRead
+fieldsRead directory mode count next =
+    if within 1 1000 count
+    then header-read.Fields (record { space = record { directory = frame directory; mode = mode }; count = count }) next
+    else header-read.Refused (unplaced OutOfLimits)
 
 abbrev pub runRead : Read Run → RunRead
 runRead (got r next) = run-read.Taken r next

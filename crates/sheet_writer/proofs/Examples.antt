@@ -16,7 +16,7 @@ pages : List ℕ → List ℕ
 pages bytes = map (λ (n : ℕ). n / 4096) bytes
 
 p1-call : List ℕ → WriteOutcome
-p1-call out = writeSheet (0x187000 / 4096) (pages (0x1000 ∷ 0x100000 ∷ [])) (pages (0x9E000 ∷ 0x3FEF0000 ∷ [])) out
+p1-call out = writeSheet (0x187000 / 4096) 0 0 (pages (0x1000 ∷ 0x100000 ∷ [])) (pages (0x9E000 ∷ 0x3FEF0000 ∷ [])) out
 
 -- with a byte of room left over, which stays; with room for the sheet alone; with a byte too few
 pub p1 : List Example
@@ -38,10 +38,10 @@ p1-holds = (refl, (refl, (refl, tt)))
 
 -- the number, with a buffer of this length, and the bytes
 number : ℕ → List ℕ → List ℕ → ℕ → ℕ
-number directory starts lengths room = writeSheet directory starts lengths (replicate room 0) .answer .number
+number directory starts lengths room = writeSheet directory 0 0 starts lengths (replicate room 0) .answer .number
 
 bytes : ℕ → List ℕ → List ℕ → ℕ → List ℕ
-bytes directory starts lengths room = writeSheet directory starts lengths (replicate room 0) .buffer
+bytes directory starts lengths room = writeSheet directory 0 0 starts lengths (replicate room 0) .buffer
 
 -- 12 in the last number, 13 in the first run, no room: 12 comes before 13, and both before 17
 pub orders : List Example
@@ -78,3 +78,37 @@ edges =
 pub edges-hold : Hold edges
 unfolding edges number bytes stretch writeSheet inLimits joinedBefore sheetBytes headerBytes runBytes encode
 edges-hold = (refl, (refl, (refl, (refl, (refl, (refl, (refl, (refl, tt))))))))
+
+-- ---- paging modes
+
+-- one page with this mode and place, and its number with a run of no pages and no room
+one-page : ℕ → ℕ → ℕ → WriteOutcome
+one-page mode place room = writeSheet 0x7600 mode place (0 ∷ []) (1 ∷ []) (replicate room 0)
+
+judged : ℕ → ℕ → ℕ
+judged mode place = writeSheet 0 mode place (0 ∷ []) (0 ∷ []) [] .answer .number
+
+done : ℕ → List ℕ → WriteOutcome
+done length bytes = record { answer = record { number = 0; length = length }; buffer = bytes }
+
+-- edition 1 for four levels; plain; PAE at 000's place, the first and the last; a byte too few
+pub modes : List Example
+modes =
+    same (one-page 0 0 9) (done 7 (0x01 ∷ 0x80 ∷ 0xEC ∷ 0x01 ∷ 0x01 ∷ 0x00 ∷ 0x01 ∷ 0x00 ∷ 0x00 ∷ []))
+    ∷ same (one-page 1 0 9) (done 9 (0x02 ∷ 0x80 ∷ 0xEC ∷ 0x01 ∷ 0x01 ∷ 0x00 ∷ 0x01 ∷ 0x00 ∷ 0x01 ∷ []))
+    ∷ same (one-page 2 65 9) (done 9 (0x02 ∷ 0x80 ∷ 0xEC ∷ 0x01 ∷ 0x02 ∷ 0x41 ∷ 0x01 ∷ 0x00 ∷ 0x01 ∷ []))
+    ∷ same (one-page 2 0 9) (done 9 (0x02 ∷ 0x80 ∷ 0xEC ∷ 0x01 ∷ 0x02 ∷ 0x00 ∷ 0x01 ∷ 0x00 ∷ 0x01 ∷ []))
+    ∷ same (one-page 2 127 9) (done 9 (0x02 ∷ 0x80 ∷ 0xEC ∷ 0x01 ∷ 0x02 ∷ 0x7F ∷ 0x01 ∷ 0x00 ∷ 0x01 ∷ []))
+    ∷ same (one-page 2 65 8) (unwritten (replicate 8 0) SheetBufferShort)
+    -- 12 before 13 and 17: a mode over 2, a place over 127, a place in another mode than 2
+    ∷ same (judged 3 0) 12
+    ∷ same (judged 2 128) 12
+    ∷ same (judged 1 1) 12
+    ∷ same (judged 0 1) 12
+    ∷ same (judged 0 128) 12
+    ∷ same (judged 2 127) 13
+    ∷ []
+
+pub modes-hold : Hold modes
+unfolding modes one-page judged done writeSheet inLimits joinedBefore sheetBytes headerBytes runBytes encode
+modes-hold = (refl, (refl, (refl, (refl, (refl, (refl, (refl, (refl, (refl, (refl, (refl, (refl, tt))))))))))))

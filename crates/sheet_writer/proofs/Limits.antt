@@ -10,7 +10,8 @@ use lib.ListN.{length, getD, drop, drop-of-length-le}
 use lib.Seq.{drop-cons}
 use borrow.Author.Tests.{lt-ltb, le-ltb, le-leb, lt-leb, eq-eqb, ne-eqb, ltb-true, leb-true, eqb-true}
 use Rattle.base.proofs.Test.{both-true}
-use Rattle.sheet_writer.specs.Write.{allBelow, inLimits, runsOf}
+use Rattle.sheet.specs.Sheet.{isPlace}
+use Rattle.sheet_writer.specs.Write.{allBelow, isMode, inLimits, runsOf}
 use Rattle.sheet_writer.specs.Inner.{Given, runAt}
 
 -- ---- numbers below 2^36
@@ -41,37 +42,49 @@ below-at (n ∷ ns) (suc i) b h = below-at ns i (both-true (ltb n (2 ^ 36)) (all
 
 -- ---- all limits
 
-module _ (directory : ℕ) (starts lengths : List ℕ) where
-  pub other-number : (length starts ≡ length lengths → ⊥) → false ≡ inLimits directory starts lengths
+module _ (directory mode place : ℕ) (starts lengths : List ℕ) where
+  pub other-number : (length starts ≡ length lengths → ⊥) → false ≡ inLimits directory mode place starts lengths
   unfolding inLimits
-  other-number h = rw (ne-eqb (length starts) (length lengths) h, and-false, and-false)
+  other-number h = rw (ne-eqb (length starts) (length lengths) h, and-false, and-false, and-false)
 
-  pub no-run : length starts < 1 → false ≡ inLimits directory starts lengths
+  pub no-run : length starts < 1 → false ≡ inLimits directory mode place starts lengths
   unfolding inLimits
-  no-run h = rw (lt-leb 1 (length starts) h, and-false, and-false, and-false)
+  no-run h = rw (lt-leb 1 (length starts) h, and-false, and-false, and-false, and-false)
 
-  pub many-runs : 1000 < length starts → false ≡ inLimits directory starts lengths
+  pub many-runs : 1000 < length starts → false ≡ inLimits directory mode place starts lengths
   unfolding inLimits
-  many-runs h = rw (lt-leb (length starts) 1000 h, and-false, and-false, and-false, and-false)
+  many-runs h = rw (lt-leb (length starts) 1000 h, and-false, and-false, and-false, and-false, and-false)
 
-  pub large-directory : 2 ^ 36 ≤ directory → false ≡ inLimits directory starts lengths
+  pub large-directory : 2 ^ 36 ≤ directory → false ≡ inLimits directory mode place starts lengths
   unfolding inLimits
-  large-directory h = rw (le-ltb directory (2 ^ 36) h)
+  large-directory h = rw (le-ltb directory (2 ^ 36) h, and-false)
 
-  pub large-start : allBelow starts ≡ false → false ≡ inLimits directory starts lengths
+  pub large-mode : 2 < mode → false ≡ inLimits directory mode place starts lengths
   unfolding inLimits
-  large-start h = rw (h, and-false)
+  large-mode h = rw (lt-leb mode 2 h)
 
-  pub but-lengths : length starts ≡ length lengths → 1 ≤ length starts → length starts ≤ 1000 → directory < 2 ^ 36 → allBelow starts ≡ true
-      → allBelow lengths ≡ inLimits directory starts lengths
+  pub other-place : isPlace mode place ≡ false → false ≡ inLimits directory mode place starts lengths
   unfolding inLimits
-  but-lengths e s m d b =
-      rw (eq-eqb (length starts) (length lengths) e, le-leb 1 (length starts) s, le-leb (length starts) 1000 m, lt-ltb directory (2 ^ 36) d, b, and-true)
+  other-place h = rw (h, and-false)
 
-  pub limits : inLimits directory starts lengths ≡ true → (directory < 2 ^ 36) × Given starts lengths
+  pub large-start : allBelow starts ≡ false → false ≡ inLimits directory mode place starts lengths
+  unfolding inLimits
+  large-start h = rw (h, and-false, and-false)
+
+  pub but-lengths : length starts ≡ length lengths → 1 ≤ length starts → length starts ≤ 1000 → directory < 2 ^ 36 → isMode mode place ≡ true → allBelow starts ≡ true
+      → allBelow lengths ≡ inLimits directory mode place starts lengths
+  unfolding inLimits
+  but-lengths e s m d i b =
+      rw (eq-eqb (length starts) (length lengths) e, le-leb 1 (length starts) s, le-leb (length starts) 1000 m, lt-ltb directory (2 ^ 36) d, i, b, and-true)
+
+  pub in-mode : inLimits directory mode place starts lengths ≡ true → isMode mode place ≡ true
+  unfolding inLimits
+  in-mode h = both-true (isMode mode place) _ h .0
+
+  pub limits : inLimits directory mode place starts lengths ≡ true → (directory < 2 ^ 36) × Given starts lengths
   unfolding inLimits
   limits h =
-      let p = both-true (allBelow (directory ∷ starts)) _ h in
+      let p = both-true (allBelow (directory ∷ starts)) _ (both-true (isMode mode place) _ h .1) in
       let q = both-true (ltb directory (2 ^ 36)) (allBelow starts) (p .0) in
       let l = both-true (allBelow lengths) _ (p .1) in
       let n = both-true (eqb (length starts) (length lengths)) _ (l .1) in

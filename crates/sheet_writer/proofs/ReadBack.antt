@@ -6,30 +6,35 @@ use Prim.Native.Nat.{ℕ, zero, suc, _+_, _-_, _*_, _%_, _^_, _<_, _≤_}
 use native.Mathlib.Omega.{arith}
 use lib.Dec.{ltb, leb}
 use lib.ListN.{length, drop, length-append}
-use lib.Seq.{drop-length}
+use lib.Seq.{drop-length, drop-at}
 use borrow.Author.Tests.{lt-ltb, le-leb, eq-eqb, ltb-true}
-use Rattle.base.specs.declared.Refusal.the-variants.{OutOfLimits, BadRun}
+use Rattle.base.specs.declared.Refusal.the-variants.{BadRun}
 use Rattle.base.specs.Notation.{within}
 use Rattle.base.proofs.Test.{both-true}
 use Rattle.varint.specs.Reader.{got}
 use Rattle.varint.specs.Groups.{encode, number}
-use Rattle.varint.specs.Edition.{edition, EditionFields, editionFields}
 use Rattle.varint.proofs.Reader.{came, held, returned}
 use Rattle.varint.proofs.Forms.{Bytes, Stands}
 use Rattle.varint.proofs.Fields.{field-below}
-use Rattle.varint.proofs.Standing.{number-at, drop-after, field-stands, FieldsStand, fields-stand}
+use Rattle.varint.proofs.Standing.{number-at, drop-after, field-stands}
 use Rattle.entry.specs.Pages.{frame}
-use Rattle.sheet.specs.Sheet.{spaceAt, header, endOf, runFrom, runsFrom, runPages, Sheet, ownFields, sheetFields, sheetOf}
+use Rattle.entry.specs.declared.PagingMode.{PagingMode}
+use Rattle.entry.specs.declared.PagingMode.the-variants.{FourLevel, Plain, Pae}
+use Rattle.sheet.specs.Sheet.{modeNumber, placeOf, modeFields, modeBy, header, endOf, runFrom, runsFrom, runPages, Sheet, ownFields, sheetFields, sheetOf}
+use Rattle.sheet.specs.Inner.{PlaceInPage}
 use Rattle.sheet.specs.declared.AddressSpace.{AddressSpace}
 use Rattle.sheet.specs.declared.Header.{Header}
 use Rattle.sheet.specs.declared.Run.{Run}
+use Rattle.sheet.proofs.Modes.{mode-again, mode-most, place-again, place-most, mode-read}
+use Rattle.sheet.proofs.HeaderFields.{ModeField, none, two, header-parts}
 use Rattle.sheet.proofs.OneRun.{Follows, run-read}
 use Rattle.sheet.proofs.AcceptedCase.{Chain, runs-chain, sheet-parts, accepted-laws}
-use Rattle.sheet_writer.specs.Write.{writable, headerBytes, runBytes, runsBytes, sheetBytes}
+use Rattle.sheet_writer.specs.Write.{writable, editionOf, modeBytes, headerBytes, runBytes, runsBytes, sheetBytes}
 
 -- a sheet that keeps the rules
 pub record Keeps (t : Sheet) : Type 0 where
   pub directory : t .space .directory .0 < 2 ^ 36
+  pub place : PlaceInPage (t .space .mode)
   pub some : 1 ≤ length (t .runs)
   pub most : length (t .runs) ≤ 1000
   pub chain : Chain 0 0 (t .runs)
@@ -64,30 +69,69 @@ runs-at (r ∷ rs) s at least end rest c w e =
     rw (run-at s at least end r _ (c .0) (ltb-true (r .pages) (2 ^ 36) (p .0)) e₁, runs-at rs s at₁ 1 (endOf r) rest (c .1) (p .1) e₂)
     (ap (got (r ∷ rs)) (omega (arith, length-append (runBytes end r) (runsBytes (endOf r) rs))))
 
+-- a mode of edition 2
+second-at : (m : PagingMode) (s : List ℕ) (at : ℕ) (rest : List ℕ) → 1 ≤ modeNumber m → PlaceInPage m → drop at s ≡ (encode (modeNumber m) ++ encode (placeOf m)) ++ rest
+    → modeFields s at ≡ got m (at + length (encode (modeNumber m) ++ encode (placeOf m)))
+second-at m s at rest some h e =
+    let n = modeNumber m in
+    let most : n ≤ 2 = mode-most m in
+    let e₁ : drop at s ≡ encode n ++ (encode (placeOf m) ++ rest) = e ∙ append-assoc (encode n) (encode (placeOf m)) rest in
+    let at₁ : ℕ = at + length (encode n) in
+    let e₂ : drop at₁ s ≡ encode (placeOf m) ++ rest = drop-after s at (encode n) _ e₁ in
+    let n₁ = number-at s at n _ (omega arith) e₁ in
+    let n₂ = number-at s at₁ (placeOf m) rest (omega (arith, place-most m h)) e₂ in
+    mode-read s at n at₁ n₁ some most (placeOf m) (at₁ + length (encode (placeOf m))) n₂ (place-again m h)
+    ∙ ap (λ (z : PagingMode). got z (at₁ + length (encode (placeOf m)))) (mode-again m)
+    ∙ ap (got m) (omega (arith, length-append (encode n) (encode (placeOf m))))
+
+mode-at : (m : PagingMode) (s : List ℕ) (at : ℕ) (rest : List ℕ) → PlaceInPage m → drop at s ≡ modeBytes m ++ rest → modeBy (editionOf m) s at ≡ got m (at + length (modeBytes m))
+mode-at FourLevel s at rest h e = ap (got FourLevel) (omega arith)
+mode-at Plain s at rest h e = second-at Plain s at rest (omega arith) h e
+mode-at (Pae place) s at rest h e = second-at (Pae place) s at rest (omega arith) h e
+
+edition-known : (m : PagingMode) → (editionOf m < 2 ^ 36) × (within 1 2 (editionOf m) ≡ true)
+edition-known FourLevel = (omega arith, refl)
+edition-known Plain = (omega arith, refl)
+edition-known (Pae place) = (omega arith, refl)
+
+header-at : (s : List ℕ) (h : Header) (rest : List ℕ) → s ≡ headerBytes h ++ rest → h .space .directory .0 < 2 ^ 36 → PlaceInPage (h .space .mode) → 1 ≤ h .count → h .count ≤ 1000
+    → header s 0 ≡ got h (length (headerBytes h))
+unfolding header headerBytes
+header-at s h rest e d p some most =
+    let directory = h .space .directory .0 in
+    let m = h .space .mode in
+    let known = edition-known m in
+    let d₀ : drop 0 s ≡ encode (editionOf m) ++ (encode directory ++ (modeBytes m ++ (encode (h .count) ++ rest))) = e ∙ rw (append-assoc, append-assoc, append-assoc) in
+    let at₁ : ℕ = 0 + length (encode (editionOf m)) in
+    let d₁ : drop at₁ s ≡ encode directory ++ (modeBytes m ++ (encode (h .count) ++ rest)) = drop-after s 0 (encode (editionOf m)) _ d₀ in
+    let at₂ : ℕ = at₁ + length (encode directory) in
+    let d₂ : drop at₂ s ≡ modeBytes m ++ (encode (h .count) ++ rest) = drop-after s at₁ (encode directory) _ d₁ in
+    let at₃ : ℕ = at₂ + length (modeBytes m) in
+    let d₃ : drop at₃ s ≡ encode (h .count) ++ rest = drop-after s at₂ (modeBytes m) _ d₂ in
+    let sum : length (encode (editionOf m) ++ (encode directory ++ (modeBytes m ++ encode (h .count)))) ≡ at₃ + length (encode (h .count)) =
+    rw (length-append, length-append, length-append) (omega arith) in
+    rw (
+      number-at s 0 (editionOf m) _ (known .0) d₀,
+      known .1,
+      number-at s at₁ directory _ d d₁,
+      mode-at m s at₂ _ p d₂,
+      number-at s at₃ (h .count) _ (omega arith) d₃,
+      le-leb 1 (h .count) some,
+      le-leb (h .count) 1000 most,
+    ) (ap (got h) (sym sum))
+
 pub sheet-reads : (s : List ℕ) (t : Sheet) (image pagefile : ℕ) → s ≡ sheetBytes t → Keeps t → image ≡ 4096 * runPages (t .runs) → pagefile % 4096 ≡ 0
     → sheetOf s image pagefile ≡ got t (length s)
-unfolding sheetOf sheetFields ownFields header editionFields edition sheetBytes headerBytes
+unfolding sheetOf sheetFields ownFields sheetBytes
 sheet-reads s t image pagefile e k i p =
-    let directory = t .space .directory .0 in
-    let count = length (t .runs) in
-    let d₀ : drop 0 s ≡ encode 1 ++ (encode directory ++ (encode count ++ (runsBytes 0 (t .runs) ++ []))) = e ∙ rw (append-nil (runsBytes 0 (t .runs)), append-assoc, append-assoc) in
-    let at₁ : ℕ = 0 + length (encode 1) in
-    let d₁ : drop at₁ s ≡ encode directory ++ (encode count ++ (runsBytes 0 (t .runs) ++ [])) = drop-after s 0 (encode 1) _ d₀ in
-    let at₂ : ℕ = at₁ + length (encode directory) in
-    let d₂ : drop at₂ s ≡ encode count ++ (runsBytes 0 (t .runs) ++ []) = drop-after s at₁ (encode directory) _ d₁ in
-    let at₃ : ℕ = at₂ + length (encode count) in
-    let d₃ : drop at₃ s ≡ runsBytes 0 (t .runs) ++ [] = drop-after s at₂ (encode count) _ d₂ in
-    let sum : length s ≡ length (encode 1) + (length (encode directory) + (length (encode count) + length (runsBytes 0 (t .runs)))) =
-    ap length e ∙ rw (append-assoc, append-assoc, length-append, length-append, length-append) in
-    let end : at₃ + length (runsBytes 0 (t .runs)) ≡ length s = omega (arith, sum) in
+    let h : Header = record { space = t .space; count = length (t .runs) } in
+    let at : ℕ = length (headerBytes h) in
+    let d : drop at s ≡ runsBytes 0 (t .runs) ++ [] = rw (e, append-nil (runsBytes 0 (t .runs))) (drop-at (headerBytes h) (runsBytes 0 (t .runs)) at refl) in
+    let end : at + length (runsBytes 0 (t .runs)) ≡ length s = sym (ap length e ∙ length-append (headerBytes h) (runsBytes 0 (t .runs))) in
     rw (
-      number-at s 0 1 _ (omega arith) d₀,
-      number-at s at₁ directory _ (k .directory) d₁,
-      number-at s at₂ count _ (omega (arith, k .most)) d₂,
-      le-leb 1 count (k .some),
-      le-leb count 1000 (k .most),
-      runs-at (t .runs) s at₃ 0 0 [] (k .chain) (k .lengths) d₃,
-      eq-eqb (at₃ + length (runsBytes 0 (t .runs))) (length s) end,
+      header-at s h (runsBytes 0 (t .runs)) e (k .directory) (k .place) (k .some) (k .most),
+      runs-at (t .runs) s at 0 0 [] (k .chain) (k .lengths) d,
+      eq-eqb (at + length (runsBytes 0 (t .runs))) (length s) end,
       eq-eqb image (4096 * runPages (t .runs)) i,
       p,
     ) (ap (got t) end)
@@ -147,20 +191,31 @@ runs-form (suc n) s at least end rs next b e =
     more-runs s at end r (c₁ .at) (c₂ .value) (c₂ .at) (run-form s at least end r (c₁ .at) b (c₁ .field)) (runs-form n s (c₁ .at) 1 (endOf r) (c₂ .value) (c₂ .at) b (c₂ .field)) in
     rw (same .0, same .1) at own
 
-header-stands : (s : List ℕ) (f : EditionFields) (next : ℕ) → FieldsStand s 0 f next → s ≡ headerBytes (record { space = spaceAt (f .first); count = f .second }) ++ drop next s
-unfolding headerBytes
-header-stands s f next q =
-    rw (append-assoc, append-assoc)
-    (q .edition .bytes ∙ ap (λ (l : List ℕ). encode 1 ++ l) (q .first .bytes ∙ ap (λ (l : List ℕ). encode (f .first) ++ l) (q .second .bytes)))
+-- the two numbers of edition 2's modes
+second-form : (m : PagingMode) → 1 ≤ modeNumber m → (editionOf m ≡ 2) × (modeBytes m ≡ encode (modeNumber m) ++ encode (placeOf m))
+second-form FourLevel h = absurd (omega arith)
+second-form Plain h = (refl, refl)
+second-form (Pae place) h = (refl, refl)
+
+mode-form : {s : List ℕ} {at n next : ℕ} {m : PagingMode} → Bytes s → ModeField s at n m next → (n ≡ editionOf m) × (drop at s ≡ modeBytes m ++ drop next s)
+mode-form b none = (refl, refl)
+mode-form {s} {at} b (two m next q) =
+    let f = second-form m (q .some) in
+    let n₁ = field-stands s at (modeNumber m) (q .place-at) b (q .mode-read) in
+    let n₂ = field-stands s (q .place-at) (placeOf m) next b (q .place-read) in
+    (sym (f .0), rw (f .1, append-assoc) (n₁ .bytes ∙ ap (λ (l : List ℕ). encode (modeNumber m) ++ l) (n₂ .bytes)))
 
 header-form : (s : List ℕ) (h : Header) (next : ℕ) → Bytes s → header s 0 ≡ got h next → s ≡ headerBytes h ++ drop next s
-unfolding header
+unfolding headerBytes
 header-form s h next b e =
-    let c = came s _ (editionFields s 0) h next e in
-    let f = c .value in
-    let t = held s _ (within 1 1000 (f .second)) OutOfLimits (c .at) h next (c .rest) in
-    let same = returned (record { space = spaceAt (f .first); count = f .second }) h (c .at) next (t .1) in
-    rw (same .0, same .1) at (header-stands s f (c .at) (fields-stand s 0 f (c .at) b (c .field)))
+    let p = header-parts s h next e in
+    let m = h .space .mode in
+    let f = mode-form b (p .mode-read) in
+    let edition = rw (f .0) at (field-stands s 0 (p .edition) (p .directory-at) b (p .edition-read) .bytes) in
+    let directory = field-stands s (p .directory-at) (h .space .directory .0) (p .mode-at) b (p .directory-read) .bytes in
+    let count = field-stands s (p .count-at) (h .count) next b (p .count-read) .bytes in
+    rw (append-assoc, append-assoc, append-assoc)
+    (edition ∙ ap (λ (l : List ℕ). encode (editionOf m) ++ l) (directory ∙ ap (λ (l : List ℕ). encode (h .space .directory .0) ++ l) (f .1 ∙ ap (λ (l : List ℕ). modeBytes m ++ l) count)))
 
 pub record SheetForm (s : List ℕ) (t : Sheet) : Type 0 where
   pub keeps : Keeps t
@@ -177,6 +232,6 @@ sheet-form s image pagefile t at b e =
     let fields : p .fields ≡ record { space = t .space; count = length (t .runs) } =
     ap (λ (z : AddressSpace). record { space = z; count = p .fields .count }) (p .space) ∙ ap (λ (k : ℕ). record { space = t .space; count = k }) (sym many) in
     record {
-      keeps = record { directory = laws .directory; some = laws .some; most = laws .most; chain = laws .chain; lengths = runs .lengths };
+      keeps = record { directory = laws .directory; place = laws .place; some = laws .some; most = laws .most; chain = laws .chain; lengths = runs .lengths };
       bytes = rw fields at (header-form s (p .fields) (p .at) b (p .header-read)) ∙ ap (λ (l : List ℕ). headerBytes (record { space = t .space; count = length (t .runs) }) ++ l) all;
     }

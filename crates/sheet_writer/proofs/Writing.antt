@@ -14,11 +14,13 @@ use Rattle.base.specs.declared.Refusal.the-variants.{SheetBufferShort}
 use Rattle.base.specs.declared.Written.{Written}
 use Rattle.base.proofs.Overlay.{sets-none, wrote-none, wrote-then}
 use Rattle.varint.specs.Groups.{encode}
-use Rattle.sheet.specs.Sheet.{endOf, Sheet}
+use Rattle.entry.specs.declared.PagingMode.{PagingMode}
+use Rattle.entry.specs.declared.PagingMode.the-variants.{FourLevel, Plain, Pae}
+use Rattle.sheet.specs.Sheet.{modeNumber, placeOf, endOf, Sheet}
 use Rattle.sheet.specs.declared.Header.{Header}
 use Rattle.sheet.specs.declared.Run.{Run}
 use Rattle.sheet.proofs.OneRun.{Follows}
-use Rattle.sheet_writer.specs.Write.{runsOf, inOrder, touches, asOne, joinedBefore, joinedRuns, headerBytes, runBytes, runsBytes, sheetBytes}
+use Rattle.sheet_writer.specs.Write.{runsOf, inOrder, touches, asOne, joinedBefore, joinedRuns, editionOf, modeBytes, headerBytes, runBytes, runsBytes, sheetBytes}
 use Rattle.sheet_writer.specs.Call.{sheetOutcome}
 use Rattle.sheet_writer.specs.Inner.{Given, runAt, lastAfter, writtenSheet, Ready, Room, writtenFor, endAfter, RunTaken}
 use Rattle.sheet_writer.specs.declared.RunWriter.{RunWriter}
@@ -26,13 +28,32 @@ use Rattle.sheet_writer.proofs.Lengths.{run-length, sheet-length}
 use Rattle.sheet_writer.proofs.Joining.{last-end, bytes-touching, bytes-apart, in-order, joined-most}
 use Rattle.sheet_writer.proofs.Limits.{runs-length, runs-next, runs-none}
 
-pub wrote-header : (h : Header) {o o₁ o₂ o₃ : List ℕ} {a b r : ℕ}
-    → Wrote o 0 (encode 1) a o₁
+pub wrote-header : (h : Header) {o o₁ o₂ o₃ o₄ : List ℕ} {a b c r : ℕ}
+    → Wrote o 0 (encode (editionOf (h .space .mode))) a o₁
     → Wrote o₁ a (encode (h .space .directory .0)) b o₂
-    → Wrote o₂ b (encode (h .count)) r o₃
-    → Wrote o 0 (headerBytes h) r o₃
+    → Wrote o₂ b (modeBytes (h .space .mode)) c o₃
+    → Wrote o₃ c (encode (h .count)) r o₄
+    → Wrote o 0 (headerBytes h) r o₄
 unfolding headerBytes
-wrote-header h p q s = wrote-then p (wrote-then q s)
+wrote-header h p q m s = wrote-then p (wrote-then q (wrote-then m s))
+
+module _ (m : PagingMode) (n : ℕ) (e : n ≡ modeNumber m) where
+  pub wrote-no-mode : n ≡ 0 → (o : List ℕ) (at : ℕ) → Wrote o at (modeBytes m) at o
+  wrote-no-mode h o at = go m (sym e ∙ h)
+    where
+      go : (m : PagingMode) → modeNumber m ≡ 0 → Wrote o at (modeBytes m) at o
+      go FourLevel h = wrote-none o at
+      go Plain h = absurd (omega (arith, h))
+      go (Pae place) h = absurd (omega (arith, h))
+
+  pub wrote-mode : (n ≡ 0 → ⊥) → (k : ℕ) → k ≡ placeOf m → {o o₁ o₂ : List ℕ} {at a r : ℕ}
+      → Wrote o at (encode n) a o₁ → Wrote o₁ a (encode k) r o₂ → Wrote o at (modeBytes m) r o₂
+  wrote-mode h k f {o} {o₁} {o₂} {at} {a} {r} p q = go m (rw e at h) (rw e at p) (rw f at q)
+    where
+      go : (m : PagingMode) → (modeNumber m ≡ 0 → ⊥) → Wrote o at (encode (modeNumber m)) a o₁ → Wrote o₁ a (encode (placeOf m)) r o₂ → Wrote o at (modeBytes m) r o₂
+      go FourLevel h p q = absurd (h refl)
+      go Plain h p q = wrote-then p q
+      go (Pae place) h p q = wrote-then p q
 
 pub wrote-run : (end : ℕ) (run : Run) {o o₁ o₂ : List ℕ} {at a r : ℕ}
     → Wrote o at (encode (run .first .0 - end)) a o₁ → Wrote o₁ a (encode (run .pages)) r o₂ → Wrote o at (runBytes end run) r o₂
@@ -149,12 +170,12 @@ count-most {h} {ss} {ls} q = omega (arith, q .count, joined-most (runsOf ss ls),
 -- ---- the two passes
 
 -- a buffer that no sheet is longer than needs no measuring
-pub room-enough : {h : Header} {ss ls old new : List ℕ} {r : ℕ} → Ready h ss ls → 12009 ≤ length old → Wrote old 0 (sheetBytes (writtenSheet h ss ls)) r new
+pub room-enough : {h : Header} {ss ls old new : List ℕ} {r : ℕ} → Ready h ss ls → 12011 ≤ length old → Wrote old 0 (sheetBytes (writtenSheet h ss ls)) r new
     → record { answer = record { number = 0; length = r }; buffer = new } ≡ sheetOutcome (writtenSheet h ss ls) old
 room-enough {h} {ss} {ls} {old} {new} {r} q l p =
     let few : length (joinedRuns (runsOf ss ls)) ≤ 1000 = omega (arith, q .count, count-most q) in
     let e : r ≡ length (sheetBytes (writtenSheet h ss ls)) = omega (arith, p .place) in
-    rw (le-ltb (length old) (length (sheetBytes (writtenSheet h ss ls))) (omega (arith, sheet-length (writtenSheet h ss ls) few)), e, p .bytes)
+    rw (le-ltb (length old) (length (sheetBytes (writtenSheet h ss ls))) (omega (arith, sheet-length (writtenSheet h ss ls) (q .place) few)), e, p .bytes)
 
 module _ (s : Sheet) (old none : List ℕ) (r : ℕ) (p : Wrote [] 0 (sheetBytes s) r none) where
   nothing : none ≡ []

@@ -9,6 +9,7 @@ use Rattle.base.specs.Overlay.{Wrote}
 use Rattle.base.specs.declared.Refusal.the-variants.{OutOfLimits, BadRun}
 use Rattle.entry.specs.Pages.{frame}
 use Rattle.sheet.specs.Sheet.{endOf, Sheet}
+use Rattle.sheet.specs.Inner.{PlaceInPage}
 use Rattle.sheet.specs.declared.Header.{Header}
 use Rattle.sheet.specs.declared.Run.{Run}
 use Rattle.sheet_writer.specs.Write.{allBelow, inLimits, runsOf, inOrder, touches, asOne, joinedRuns, soundRuns, runBytes}
@@ -16,7 +17,7 @@ use Rattle.sheet_writer.specs.declared.Judged.{Judged}
 use Rattle.sheet_writer.specs.declared.Judged.the-variants.{Runs, Refused}
 use Rattle.sheet_writer.specs.declared.RunWriter.{RunWriter}
 
--- lists in their limits, but for the directory page
+-- lists in their limits
 pub record Given (starts lengths : List ℕ) : Type 0 where
   pub some : 1 ≤ length starts
   pub most : length starts ≤ 1000
@@ -33,8 +34,8 @@ runAt starts lengths i = record { first = frame (getD starts i 0); pages = getD 
 abbrev pub countedRuns : List Run → Judged
 countedRuns rs = if soundRuns rs then Runs (length (joinedRuns rs)) else Refused BadRun
 
-abbrev pub judgedOf : ℕ → List ℕ → List ℕ → Judged
-judgedOf directory starts lengths = if not (inLimits directory starts lengths) then Refused OutOfLimits else countedRuns (runsOf starts lengths)
+abbrev pub judgedOf : ℕ → ℕ → ℕ → List ℕ → List ℕ → Judged
+judgedOf directory mode place starts lengths = if not (inLimits directory mode place starts lengths) then Refused OutOfLimits else countedRuns (runsOf starts lengths)
 
 -- the last of the joined runs after the next run
 unfoldable pub lastAfter : Run → Run → Run
@@ -52,6 +53,7 @@ writtenSheet h starts lengths = record { space = h .space; runs = joinedRuns (ru
 -- numbers and runs that were judged, with the header of their sheet
 pub record Ready (h : Header) (starts lengths : List ℕ) : Type 0 where
   pub directory : h .space .directory .0 < 2 ^ 36
+  pub place : PlaceInPage (h .space .mode)
   pub given : Given starts lengths
   pub order : inOrder 0 (runsOf starts lengths) ≡ true
   pub count : h .count ≡ length (joinedRuns (runsOf starts lengths))

@@ -1,4 +1,4 @@
--- 02 order 4: the sheet of runs that are given as starts and lengths in pages.
+-- 02 orders 4 and 7: the sheet of an address space, and of runs that are given as starts and lengths in pages.
 use Prim.Native.Nat.{ℕ, _+_, _-_, _^_}
 use mathlib.Core.Bool.{Bool, true, _&&_}
 use mathlib.Core.List.{List, [], _∷_, _++_}
@@ -7,7 +7,9 @@ use lib.ListN.{length}
 use Rattle.base.specs.Notation.{if_then_else_, within}
 use Rattle.varint.specs.Groups.{encode}
 use Rattle.entry.specs.Pages.{frame}
-use Rattle.sheet.specs.Sheet.{endOf, Sheet}
+use Rattle.entry.specs.declared.PagingMode.{PagingMode}
+use Rattle.entry.specs.declared.PagingMode.the-variants.{FourLevel, Plain, Pae}
+use Rattle.sheet.specs.Sheet.{isPlace, endOf, Sheet}
 use Rattle.sheet.specs.declared.Header.{Header}
 use Rattle.sheet.specs.declared.Run.{Run}
 
@@ -16,13 +18,18 @@ abbrev pub allBelow : List ℕ → Bool
 allBelow [] = true
 allBelow (n ∷ ns) = ltb n (2 ^ 36) && allBelow ns
 
--- else 12: the numbers, starts and lengths as many as each other, 1 to 1,000 of them as given
-unfoldable pub inLimits : ℕ → List ℕ → List ℕ → Bool
-inLimits directory starts lengths =
-    allBelow (directory ∷ starts)
+-- a paging mode's number, and a place that the directory can have in it
+abbrev pub isMode : ℕ → ℕ → Bool
+isMode mode place = leb mode 2 && isPlace mode place
+
+-- else 12: the paging mode, the numbers, starts and lengths as many as each other, 1 to 1,000 of them as given
+unfoldable pub inLimits : ℕ → ℕ → ℕ → List ℕ → List ℕ → Bool
+inLimits directory mode place starts lengths =
+    isMode mode place
+    && (allBelow (directory ∷ starts)
     && (allBelow lengths
     && (eqb (length starts) (length lengths)
-    && within 1 1000 (length starts)))
+    && within 1 1000 (length starts))))
 
 -- the runs as given
 abbrev pub runsOf : List ℕ → List ℕ → List Run
@@ -73,9 +80,20 @@ writable rs = allBelow (lengthsOf rs)
 abbrev pub soundRuns : List Run → Bool
 soundRuns rs = inOrder 0 rs && writable (joinedRuns rs)
 
--- edition, directory page, run count
+abbrev pub editionOf : PagingMode → ℕ
+editionOf FourLevel = 1
+editionOf Plain = 2
+editionOf (Pae place) = 2
+
+-- edition 2's mode and place
+abbrev pub modeBytes : PagingMode → List ℕ
+modeBytes FourLevel = []
+modeBytes Plain = encode 1 ++ encode 0
+modeBytes (Pae place) = encode 2 ++ encode place
+
+-- edition, directory page, paging mode, run count
 unfoldable pub headerBytes : Header → List ℕ
-headerBytes h = encode 1 ++ (encode (h .space .directory .0) ++ encode (h .count))
+headerBytes h = encode (editionOf (h .space .mode)) ++ (encode (h .space .directory .0) ++ (modeBytes (h .space .mode) ++ encode (h .count)))
 
 -- gap from the end of the run before, length
 unfoldable pub runBytes : ℕ → Run → List ℕ

@@ -1,7 +1,8 @@
-// The sheet writer: a directory page and given runs to the sheet's bytes, runs that touch joined.
+// The sheet writer: an address space and given runs to the sheet's bytes, runs that touch joined.
 use base::Refusal;
 use base::Written;
 use entry::Frame;
+use entry::PagingMode;
 use sheet::AddressSpace;
 use sheet::Header;
 use sheet::Run;
@@ -11,7 +12,8 @@ ghost use Prim.Native.Nat.{_≤_, _<_, _^_};
 ghost use lib.ListN.{length};
 ghost use Rattle.base.specs.Overlay.{Wrote};
 ghost use Rattle.sheet.specs.Sheet.{endOf};
-ghost use Rattle.sheet_writer.specs.Write.{allBelow, inLimits, runsOf, follows, inOrder, touches, joinedRuns, headerBytes, runBytes, runsBytes, sheetBytes};
+ghost use Rattle.sheet.specs.Inner.{PlaceInPage};
+ghost use Rattle.sheet_writer.specs.Write.{allBelow, inLimits, runsOf, follows, inOrder, touches, joinedRuns, editionOf, modeBytes, headerBytes, runBytes, runsBytes, sheetBytes};
 ghost use Rattle.sheet_writer.specs.Call.{sheetOutcome, WriteAnswer};
 ghost use Rattle.sheet_writer.specs.Inner.{Given, runAt, judgedOf, countedRuns, lastAfter, runsAdded, writtenSheet, Ready, Room, RunTaken};
 
@@ -27,8 +29,13 @@ const TOP_PAGE: u64 = 0x1000000000;
 // 02 order 4: a joined run of this many pages has no written length.
 const WHOLE: u64 = 0x1000000000;
 
-// No sheet is longer: 9 bytes before the runs, then at most 12 a run.
-const SHEET_BYTES: usize = 12009;
+// 02 order 7: the edition with a paging mode, and the last mode number.
+const SECOND_EDITION: u64 = 2;
+
+const LAST_MODE: u64 = 2;
+
+// No sheet is longer: 11 bytes before the runs, then at most 12 a run.
+const SHEET_BYTES: usize = 12011;
 
 // How many runs there are once those that touch are joined, or the refusal.
 enum Judged {
@@ -43,16 +50,24 @@ struct RunWriter {
     last: Run,
 }
 
-// The sheet of a directory page and of runs with these starts and lengths, in pages, into the lent buffer.
-pub fn write_sheet(directory: u64, starts: &[u64], lengths: &[u64], out: &mut [u8]) -> Written
-    ensures { λ r. ⌜ WriteAnswer directory (now (starts .entry)) (now (lengths .entry)) (now (out .entry)) r (now (out .exit)) ⌝ }
+// The sheet of a directory page, a paging mode's number and the directory's place, and of runs with these starts and lengths,
+// in pages, into the lent buffer.
+pub fn write_sheet(
+    directory: u64,
+    mode: u64,
+    place: u64,
+    starts: &[u64],
+    lengths: &[u64],
+    out: &mut [u8],
+) -> Written
+    ensures { λ r. ⌜ WriteAnswer directory mode place (now (starts .entry)) (now (lengths .entry)) (now (out .entry)) r (now (out .exit)) ⌝ }
 {
-    match judge(directory, starts, lengths) {
+    match judge(directory, mode, place, starts, lengths) {
         Judged::Refused(refusal) => base::not_written(refusal),
         Judged::Runs(count) => {
-            let space = AddressSpace {
-                directory: Frame::numbered(directory),
-            };
+            let directory = Frame::numbered(directory);
+            let mode = sheet::paging_mode(mode, place);
+            let space = AddressSpace { directory, mode };
             write_judged(Header { space, count }, starts, lengths, out)
         }
     }
@@ -83,18 +98,18 @@ fn write_judged(header: Header, starts: &[u64], lengths: &[u64], out: &mut [u8])
 }
 
 // 12, then 13.
-fn judge(directory: u64, starts: &[u64], lengths: &[u64]) -> Judged
-    ensures { λ r. ⌜ r ≡ judgedOf directory (now (starts .entry)) (now (lengths .entry)) ⌝ }
+fn judge(directory: u64, mode: u64, place: u64, starts: &[u64], lengths: &[u64]) -> Judged
+    ensures { λ r. ⌜ r ≡ judgedOf directory mode place (now (starts .entry)) (now (lengths .entry)) ⌝ }
 {
-    if !is_in_limits(directory, starts, lengths) {
+    if !is_in_limits(directory, mode, place, starts, lengths) {
         return Judged::Refused(Refusal::OutOfLimits);
     }
     count_runs(starts, lengths)
 }
 
 // The lengths of the lists come first, so that long ones are not looked through.
-fn is_in_limits(directory: u64, starts: &[u64], lengths: &[u64]) -> bool
-    ensures { λ r. ⌜ r ≡ inLimits directory (now (starts .entry)) (now (lengths .entry)) ⌝ }
+fn is_in_limits(directory: u64, mode: u64, place: u64, starts: &[u64], lengths: &[u64]) -> bool
+    ensures { λ r. ⌜ r ≡ inLimits directory mode place (now (starts .entry)) (now (lengths .entry)) ⌝ }
 {
     if starts.len() != lengths.len() {
         return false;
@@ -106,6 +121,12 @@ fn is_in_limits(directory: u64, starts: &[u64], lengths: &[u64]) -> bool
         return false;
     }
     if NUMBER_LIMIT <= directory {
+        return false;
+    }
+    if LAST_MODE < mode {
+        return false;
+    }
+    if !sheet::is_place(mode, place) {
         return false;
     }
     if !all_below(starts) {
@@ -237,13 +258,40 @@ fn write_fields(header: Header, starts: &[u64], lengths: &[u64], out: &mut [u8])
 
 // Writes the fields before the runs, and answers the place after them.
 fn write_header(out: &mut [u8], header: Header) -> usize
-    requires { ⌜ (header .space .directory .0 < 2 ^ 36) × (header .count < 2 ^ 36) ⌝ }
+    requires { ⌜ (header .space .directory .0 < 2 ^ 36) × (PlaceInPage (header .space .mode) × (header .count < 2 ^ 36)) ⌝ }
     ensures { λ r. ⌜ Wrote (now (out .entry)) 0 (headerBytes header) r (now (out .exit)) ⌝ }
 {
-    let directory = header.space.directory;
-    let a = varint::write_number(out, 0, varint::EDITION);
+    let space = header.space;
+    let directory = space.directory;
+    let mode = space.mode;
+    let a = varint::write_number(out, 0, edition_of(mode));
     let b = varint::write_number(out, a, directory.number());
-    varint::write_number(out, b, header.count as u64)
+    let c = write_mode(out, b, mode);
+    varint::write_number(out, c, header.count as u64)
+}
+
+fn edition_of(mode: PagingMode) -> u64
+    ensures { λ r. ⌜ r ≡ editionOf mode ⌝ }
+{
+    match mode {
+        PagingMode::FourLevel => varint::EDITION,
+        PagingMode::Plain => SECOND_EDITION,
+        PagingMode::Pae(_) => SECOND_EDITION,
+    }
+}
+
+// Writes the mode and the place, unless there are four levels, and answers the place after them.
+fn write_mode(out: &mut [u8], at: usize, mode: PagingMode) -> usize
+    requires { ⌜ (at < 2 ^ 62) × PlaceInPage mode ⌝ }
+    ensures { λ r. ⌜ Wrote (now (out .entry)) at (modeBytes mode) r (now (out .exit)) ⌝ }
+{
+    let number = sheet::mode_number(mode);
+    let place = sheet::place_of(mode);
+    if number == 0 {
+        return at;
+    }
+    let a = varint::write_number(out, at, number);
+    varint::write_number(out, a, place)
 }
 
 // Writes the joined runs from a place on, and answers the place after them.

@@ -9,10 +9,10 @@ use Rattle.base.specs.Example.{Example, same, Hold}
 use Rattle.base.specs.declared.Refusal.the-variants.{NotCanonical, RegionNeeded, TimeZero}
 use Rattle.varint.specs.Groups.{decode, number}
 use Rattle.varint.specs.Edition.{edition, editionFields}
-use Rattle.words.specs.Words.{little, wordAt}
+use Rattle.words.specs.Words.{little, wordAt, littleAt}
 use Rattle.entry.specs.Pages.{frame}
-use Rattle.entry.specs.Addresses.{reachable}
-use Rattle.entry.specs.Entry.{levelOf, leafOf, upperOf}
+use Rattle.entry.specs.Addresses.{reachable, reachableIn}
+use Rattle.entry.specs.Entry.{levelOf, leafOf, leafIn, upperOf}
 use Rattle.sheet.specs.Sheet.{spaceAt, header, ownFields, sheetFields, sheetOf}
 use Rattle.walk.specs.Walk.{World, worldOf, frameIn, settleOf, descendOf, resolveOf}
 use Rattle.case.specs.Case.{caseOf}
@@ -70,7 +70,7 @@ fields =
     ∷ []
 
 pub fields-hold : Hold fields
-unfolding fields paged levelOf leafOf upperOf frameIn settleOf resolveOf reachable descendOf wordAt bytesOf
+unfolding fields paged levelOf leafOf leafIn upperOf frameIn settleOf resolveOf reachable reachableIn descendOf littleAt bytesOf
 fields-hold = (refl, (refl, (refl, (refl, (refl, (refl, (refl, tt)))))))
 
 -- the sheet's fault comes before the address

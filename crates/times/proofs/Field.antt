@@ -11,7 +11,7 @@ use Rattle.base.specs.Refusal.{refusalNumber}
 use Rattle.base.specs.declared.Refusal.{Refusal}
 use Rattle.base.proofs.Numbers.{ten-or-more}
 use Rattle.varint.specs.Reader as reader
-use Rattle.words.specs.Words.{little, wordAt}
+use Rattle.words.specs.Words.{little, wordAt, littleAt}
 use Rattle.sheet.specs.Sheet.{Sheet}
 use Rattle.walk.specs.Walk.{World, worldOf, resolveOf, Inside, Grounded}
 use Rattle.walk.specs.declared.Place.{Place}
@@ -69,7 +69,7 @@ module _ (w : World) where
 -- ---- the read of the field
 
 laid-word : (old xs : List ℕ) → length old ≡ 8 → length xs ≡ 8 → wordAt (sets old 0 xs) 0 ≡ little xs
-unfolding wordAt
+unfolding littleAt
 laid-word old xs h n = rw (sets-eq xs old 0 (omega arith)) (ap little (take-at xs _ 8 n))
 
 module _ (c : Case) (a : ℕ) (old : List ℕ) (v : BytesRead) (new : List ℕ) (room : length old ≡ 8) (q : ReadAnswer c a 8 old v new) where

@@ -9,8 +9,9 @@ use Rattle.base.specs.Notation.{if_then_else_}
 use Rattle.base.specs.Codes.{isCode}
 use Rattle.base.specs.Refusal.{refusalNumber}
 use Rattle.base.specs.declared.Refusal.the-variants.{PrototypeUnaligned, PastPagefile}
-use Rattle.entry.specs.Addresses.{reachable}
-use Rattle.entry.specs.Entry.{levelOf, upperOf, leafOf, prototypeOf}
+use Rattle.entry.specs.Addresses.{reachableIn}
+use Rattle.entry.specs.Entry.{levelsBelow, levelOf, topOffset, upperOf, leafIn, prototypeOf}
+use Rattle.entry.specs.declared.PagingMode.{PagingMode}
 use Rattle.entry.specs.declared.Frame.{Frame}
 use Rattle.entry.specs.declared.Level.{Level}
 use Rattle.entry.specs.declared.EntryPlace.{EntryPlace}
@@ -21,8 +22,8 @@ use Rattle.entry.specs.declared.Upper.the-variants.{Table, LargePage, UpperNeed
 use Rattle.entry.specs.declared.Upper.the-variants as upper
 use Rattle.entry.specs.declared.Leaf.{Leaf}
 use Rattle.entry.specs.declared.Leaf.the-variants.{Settled, Prototype, NeedsRegion}
-use Rattle.entry.proofs.Codes.{EntryPlaceCoded, UpperCoded, LeafCoded, prototype-coded, upper-coded, leaf-coded}
-use Rattle.words.specs.Words.{wordAt}
+use Rattle.entry.proofs.Codes.{EntryPlaceCoded, UpperCoded, LeafCoded, prototype-coded, upper-coded, leaf-in-coded}
+use Rattle.words.specs.Words.{littleAt}
 use Rattle.walk.specs.Walk.{
   World,
   Walked,
@@ -78,27 +79,31 @@ module _ (w : World) (q : Sound w) (small : length (w .image) ≤ 2 ^ 48) where
   settle-coded a ZeroPage t = tt
   settle-coded a (entry-place.Refused r) t = t
 
-  entry-coded : (l : Level) (a : ℕ) (next : ℕ → Trail) (x : ImagePage) → ((e : ℕ) → LeafCoded (next e .leaf)) → LeafCoded (entryOf (w .image) l a next x .leaf)
-  unfolding isCode
-  entry-coded l a next Absent h = refl
-  entry-coded l a next (Page p) h = h (wordAt (w .image) (entryOffset l p a))
+  -- the paging mode
+  abbrev m : PagingMode
+  m = w .space .mode
 
-  step-coded : (u : Upper) (next : Frame → Trail) → UpperCoded u → ((f : Frame) → LeafCoded (next f .leaf)) → LeafCoded (upperStep next u .leaf)
+  entry-coded : (l : Level) (o a : ℕ) (next : ℕ → Trail) (x : ImagePage) → ((e : ℕ) → LeafCoded m (next e .leaf)) → LeafCoded m (entryOf (w .image) l o a next x .leaf)
+  unfolding isCode
+  entry-coded l o a next Absent h = refl
+  entry-coded l o a next (Page p) h = h (littleAt (l .bytes) (w .image) (entryOffset l p o a))
+
+  step-coded : (u : Upper) (next : Frame → Trail) → UpperCoded u → ((f : Frame) → LeafCoded m (next f .leaf)) → LeafCoded m (upperStep next u .leaf)
   step-coded (Table f) next t h = h f
   step-coded (LargePage f s) next t h = tt
   step-coded (upper.Refused r) next t h = t
   step-coded UpperNeedsRegion next t h = tt
 
-  descend-coded : (n : ℕ) (t : ImagePage) (a : ℕ) → LeafCoded (descendOf n (w .page) (w .image) t a .leaf)
+  descend-coded : (n o : ℕ) (t : ImagePage) (a : ℕ) → LeafCoded m (descendOf m n (w .page) (w .image) o t a .leaf)
   unfolding descendOf
-  descend-coded zero t a = entry-coded (levelOf 0) a (λ e. halt (leafOf e)) t (λ e. leaf-coded e)
-  descend-coded (suc n) t a =
-      entry-coded (levelOf (suc n)) a (λ e. upperStep (λ f. descendOf n (w .page) (w .image) (w .page f) a) (upperOf (levelOf (suc n)) e)) t
-      (λ e. step-coded (upperOf (levelOf (suc n)) e) (λ f. descendOf n (w .page) (w .image) (w .page f) a) (upper-coded (levelOf (suc n)) e) (λ f. descend-coded n (w .page f) a))
+  descend-coded zero o t a = entry-coded (levelOf m 0) o a (λ e. halt (leafIn m e)) t (λ e. leaf-in-coded m e)
+  descend-coded (suc n) o t a =
+      entry-coded (levelOf m (suc n)) o a (λ e. upperStep (λ f. descendOf m n (w .page) (w .image) 0 (w .page f) a) (upperOf (levelOf m (suc n)) e)) t
+      (λ e. step-coded (upperOf (levelOf m (suc n)) e) (λ f. descendOf m n (w .page) (w .image) 0 (w .page f) a) (upper-coded m (suc n) e) (λ f. descend-coded n 0 (w .page f) a))
 
   abbrev NextCoded : Next → Type 0
   NextCoded noMore = Unit {0}
-  NextCoded (deeper next) = (t : ℕ) → reachable t ≡ true → PlaceCoded (next t .place)
+  NextCoded (deeper next) = (t : ℕ) → reachableIn m t ≡ true → PlaceCoded (next t .place)
 
   judged-coded : (a : ℕ) (v : Walked) (p : Place) → v .place ≡ p → PlaceCoded p → PlaceCoded (judgedAt w a v p .place)
   judged-coded a v (Refused r) e m = rw e m
@@ -106,7 +111,7 @@ module _ (w : World) (q : Sound w) (small : length (w .image) ≤ 2 ^ 48) where
   judged-coded a v (Pagefile o) e m = settle-coded a (prototypeOf (wordAtPlace w (Pagefile o))) (prototype-coded (wordAtPlace w (Pagefile o)))
   judged-coded a v Zeros e m = settle-coded a (prototypeOf 0) (prototype-coded 0)
 
-  proto-coded : (a t : ℕ) (next : Next) → NextCoded next → reachable t ≡ true → PlaceCoded (protoStep w next a t .place)
+  proto-coded : (a t : ℕ) (next : Next) → NextCoded next → reachableIn m t ≡ true → PlaceCoded (protoStep w next a t .place)
   unfolding isCode
   proto-coded a t next s h = go (eqb (t % 8) 0) next s
     where
@@ -115,16 +120,16 @@ module _ (w : World) (q : Sound w) (small : length (w .image) ≤ 2 ^ 48) where
       go true (deeper next) s = judged-coded a (next t) (next t .place) refl (s t h)
       go false next s = refl
 
-  leaf-step-coded : (a : ℕ) (next : Next) (l : Leaf) → NextCoded next → LeafCoded l → PlaceCoded (leafStep w next a l .place)
+  leaf-step-coded : (a : ℕ) (next : Next) (l : Leaf) → NextCoded next → LeafCoded m l → PlaceCoded (leafStep w next a l .place)
   unfolding isCode
   leaf-step-coded a next (Settled r) s t = settle-coded a r t
   leaf-step-coded a next (Prototype x) s t = proto-coded a x next s t
   leaf-step-coded a next NeedsRegion s t = refl
 
-  body-coded : (a : ℕ) (next : Next) → NextCoded next → reachable a ≡ true → PlaceCoded (bodyOf w next a .place)
-  body-coded a next s h = rw h (leaf-step-coded a next (descended w a .leaf) s (descend-coded 3 (w .page (w .space .directory)) a))
+  body-coded : (a : ℕ) (next : Next) → NextCoded next → reachableIn m a ≡ true → PlaceCoded (bodyOf w next a .place)
+  body-coded a next s h = rw h (leaf-step-coded a next (descended w a .leaf) s (descend-coded (levelsBelow m) (topOffset m) (w .page (w .space .directory)) a))
 
-  pub resolve-coded : (n a : ℕ) → reachable a ≡ true → PlaceCoded (resolveOf n w a .place)
+  pub resolve-coded : (n a : ℕ) → reachableIn (w .space .mode) a ≡ true → PlaceCoded (resolveOf n w a .place)
   unfolding resolveOf
   resolve-coded zero a h = body-coded a noMore tt h
   resolve-coded (suc n) a h = body-coded a (deeper (resolveOf n w)) (λ t g. resolve-coded n t g) h

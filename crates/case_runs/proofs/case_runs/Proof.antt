@@ -62,6 +62,12 @@ rows-to-runs-requires c κs =
     ordered _ _ _ _ _ _ (at-read .read-sheet .ensures) (at-read .read-sheet .kept .1 .1 .1 .0) _ (at-header .header .given .1)
     (omega (arith, at-second .before .before .if1 .left)) _ _ (at-second .read-sheet2 .ensures)
 
+mode-number-requires : tie.Need-mode-number-requires
+mode-number-requires c κs = search needs
+
+place-of-requires : tie.Need-place-of-requires
+place-of-requires c κs = search needs
+
 number-requires : tie.Need-number-requires
 number-requires c κs = search needs
 
@@ -78,13 +84,14 @@ same-length-3 c = search needs
 
 returns-3 : tie.Need-returns-3
 returns-3 c =
-    let at-turn = c .before .before .before .before .before in
+    let at-mode = c .before .before in
+    let at-turn = at-mode .before .before .before .before .before in
     let at-second = at-turn .before .before .before .before in
     let at-header = at-second .before .before .before .before in
     let at-read = at-header .before .before .before .before in
     handed-back _ _ _ _ _ _ (at-read .read-sheet .ensures) (at-read .read-sheet .kept .1 .1 .1 .0) _ (at-header .header .given .1)
     (omega (arith, at-second .before .before .if1 .left)) _ _ (at-second .read-sheet2 .ensures)
-    _ (at-turn .rows-to-runs .ensures) _ (c .number .ensures)
+    _ (at-turn .rows-to-runs .ensures) _ _ _ (c .number .ensures) (at-mode .mode-number .ensures) (c .before .place-of .ensures)
 
 pub case-runs-spec : {M : Type 1} → statement M
 case-runs-spec =
@@ -106,6 +113,8 @@ case-runs-spec =
     slice-relend-prefix-rows-to-runs
     slice-aggregate-rows-to-runs
     rows-to-runs-requires
+    mode-number-requires
+    place-of-requires
     number-requires
     same-length-2
     returns-2

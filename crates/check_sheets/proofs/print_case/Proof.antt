@@ -19,8 +19,20 @@ number-requires c κs = search needs
 print-next-requires : tie.Need-print-next-requires Inv-loop μ-loop
 print-next-requires c κs = search needs
 
+mode-number-requires : tie.Need-mode-number-requires Inv-loop μ-loop
+mode-number-requires c κs = search needs
+
 print-next-requires-2 : tie.Need-print-next-requires-2 Inv-loop μ-loop
 print-next-requires-2 c κs = search needs
+
+place-of-requires : tie.Need-place-of-requires Inv-loop μ-loop
+place-of-requires c κs = search needs
+
+print-next-requires-3 : tie.Need-print-next-requires-3 Inv-loop μ-loop
+print-next-requires-3 c κs = search needs
+
+print-next-requires-4 : tie.Need-print-next-requires-4 Inv-loop μ-loop
+print-next-requires-4 c κs = search needs
 
 loop-holds : tie.Need-loop-holds Inv-loop μ-loop
 loop-holds c = search needs
@@ -37,8 +49,8 @@ mul-first-2 c = search needs
 element-copy-out-first : tie.Need-element-copy-out-first Inv-loop μ-loop
 element-copy-out-first c = search needs
 
-print-next-requires-3 : tie.Need-print-next-requires-3 Inv-loop μ-loop
-print-next-requires-3 c κs = search needs
+print-next-requires-5 : tie.Need-print-next-requires-5 Inv-loop μ-loop
+print-next-requires-5 c κs = search needs
 
 mul-wrapping-sub-u64 : tie.Need-mul-wrapping-sub-u64 Inv-loop μ-loop
 mul-wrapping-sub-u64 c = search needs
@@ -55,8 +67,8 @@ element-copy-out-wrapping-sub-u64 c = search needs
 wrapping-sub-u64-requires : tie.Need-wrapping-sub-u64-requires Inv-loop μ-loop
 wrapping-sub-u64-requires c κs = search needs
 
-print-next-requires-4 : tie.Need-print-next-requires-4 Inv-loop μ-loop
-print-next-requires-4 c κs = search needs
+print-next-requires-6 : tie.Need-print-next-requires-6 Inv-loop μ-loop
+print-next-requires-6 c κs = search needs
 
 add-i : tie.Need-add-i Inv-loop μ-loop
 add-i c = search needs
@@ -79,19 +91,23 @@ print-case-spec =
     print-decimal-requires
     number-requires
     print-next-requires
+    mode-number-requires
     print-next-requires-2
+    place-of-requires
+    print-next-requires-3
+    print-next-requires-4
     loop-holds
     returns
     mul-first
     mul-first-2
     element-copy-out-first
-    print-next-requires-3
+    print-next-requires-5
     mul-wrapping-sub-u64
     add-wrapping-sub-u64
     mul-wrapping-sub-u64-2
     element-copy-out-wrapping-sub-u64
     wrapping-sub-u64-requires
-    print-next-requires-4
+    print-next-requires-6
     add-i
     loop-less
     loop-again

@@ -1,51 +1,49 @@
--- Each return is the law of the test that decides, with the tests before it.
-use native.Mathlib.Omega.{arith}
-use Rattle.maps.proofs.Ranges.{unaligned, no-pages, too-many, between, low-half, high-half}
+-- By the mode.
+use Rattle.maps.specs.MapOf.{allowed}
 use borrow.Author.Needs.{needs}
 use Rattle.maps.proofs.is_allowed.Statement.{statement}
 use Rattle.maps.proofs.is_allowed.Tie as tie
 
+enum-told : tie.Need-enum-told
+enum-told c = search needs
+
+is-allowed-wide-requires : tie.Need-is-allowed-wide-requires
+is-allowed-wide-requires c κs = search needs
+
+enum-told-2 : tie.Need-enum-told-2
+enum-told-2 c = search needs
+
+is-allowed-narrow-requires : tie.Need-is-allowed-narrow-requires
+is-allowed-narrow-requires c κs = search needs
+
+enum-told-3 : tie.Need-enum-told-3
+enum-told-3 c = search needs
+
+is-allowed-narrow-requires-2 : tie.Need-is-allowed-narrow-requires-2
+is-allowed-narrow-requires-2 c κs = search needs
+
 returns : tie.Need-returns
-returns c = unaligned _ _ (c .if1 .taken)
+unfolding allowed
+returns c = rw (c .before .enum-told .given .1, c .is-allowed-wide .ensures)
 
 returns-2 : tie.Need-returns-2
-returns-2 c = no-pages _ _ (c .before .if1 .left) (c .if2 .taken)
+unfolding allowed
+returns-2 c = rw (c .before .enum-told2 .given .1, c .is-allowed-narrow .ensures)
 
 returns-3 : tie.Need-returns-3
-returns-3 c = too-many _ _ (c .before .before .if1 .left) (c .before .if2 .left) (c .if3 .taken)
-
-returns-4 : tie.Need-returns-4
-returns-4 c = between _ _ (c .before .before .before .before .if1 .left) (c .before .before .before .if2 .left) (c .before .before .if3 .left) (c .before .if4 .taken) (c .if5 .taken)
-
-mul-result : tie.Need-mul-result
-mul-result c = search needs
-
-returns-5 : tie.Need-returns-5
-returns-5 c = low-half _ _ (c .before .before .before .before .if1 .left) (c .before .before .before .if2 .left) (c .before .before .if3 .left) (c .before .if4 .taken) (c .if5 .left)
-
-mul-result-2 : tie.Need-mul-result-2
-mul-result-2 c = search needs
-
-sub-result : tie.Need-sub-result
-sub-result c = search needs
-
-sub-result-2 : tie.Need-sub-result-2
-sub-result-2 c = search needs
-
-returns-6 : tie.Need-returns-6
-returns-6 c = high-half _ _ (c .before .before .before .if1 .left) (c .before .before .if2 .left) (c .before .if3 .left) (c .if4 .left) (omega arith)
+unfolding allowed
+returns-3 c = rw (c .before .enum-told3 .given .1, c .is-allowed-narrow2 .ensures)
 
 pub is-allowed-spec : {M : Type 1} → statement M
 is-allowed-spec =
     tie.close
     (tie.spec
+    enum-told
+    is-allowed-wide-requires
+    enum-told-2
+    is-allowed-narrow-requires
+    enum-told-3
+    is-allowed-narrow-requires-2
     returns
     returns-2
-    returns-3
-    returns-4
-    mul-result
-    returns-5
-    mul-result-2
-    sub-result
-    sub-result-2
-    returns-6)
+    returns-3)

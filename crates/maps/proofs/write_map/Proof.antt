@@ -1,13 +1,13 @@
 -- The loop keeps `Mapping`: the builder has taken the pages so far; at its end the header, these pages and the open extent are the map.
 use borrow.Author.Needs.{needs}
-use mathlib.Core.Path.{ap}
+use mathlib.Core.Path.{ap, _∙_}
 use native.Mathlib.Omega.{arith}
 use Prim.Native.Nat.{_-_}
 use denote.Ref.{now}
 use Rattle.entry.specs.declared.VirtualPage.{VirtualPage}
 use Rattle.walk.specs.Rows.{rowsWorld}
 use Rattle.walk.proofs.Cycle.{sound-rows}
-use Rattle.maps.proofs.Ranges.{allowed-range, range-top}
+use Rattle.maps.proofs.Ranges.{allowed-range, placed-allowed, range-top}
 use Rattle.maps.proofs.Mapping.{Mapping, mapping-none, mapping-room, mapping-next, mapping-end, map-written, wrote-long}
 use Rattle.maps.proofs.write_map.Statement.{statement}
 use Rattle.maps.proofs.write_map.Tie as tie
@@ -25,7 +25,7 @@ write-header-requires : tie.Need-write-header-requires Inv-loop μ-loop
 write-header-requires c κs =
     let at-page = c .before in
     let start-page = ap (λ (page : VirtualPage). page .0) (at-page .of-address .ensures) in
-    (omega (arith, start-page), omega (arith, allowed-range _ _ (at-page .before .before .before .before .before .pre .0) .most))
+    (omega (arith, start-page), omega (arith, allowed-range _ _ _ (at-page .before .before .before .before .before .pre .0) .most))
 
 loop-holds : tie.Need-loop-holds Inv-loop μ-loop
 loop-holds c =
@@ -33,13 +33,13 @@ loop-holds c =
     let start = at-page .before .before .before .before .before in
     let world = rowsWorld (now (start .args .rows)) (start .args .space) (now (start .args .image)) (now (start .args .pagefile)) in
     let header = rw (at-page .of-address .ensures) at (c .before .before .write-header .ensures) in
-    mapping-none world _ _ _ _ (allowed-range _ _ (start .pre .0) .most) header
+    mapping-none world _ _ _ _ (allowed-range _ _ _ (start .pre .0) .most) header
 
 mul-resolve-in : tie.Need-mul-resolve-in Inv-loop μ-loop
-mul-resolve-in c = let at-page = c .before .before .before .before .before .before in omega (arith, allowed-range _ _ (at-page .before .before .before .before .before .pre .0) .most)
+mul-resolve-in c = let at-page = c .before .before .before .before .before .before in omega (arith, allowed-range _ _ _ (at-page .before .before .before .before .before .pre .0) .most)
 
 add-resolve-in : tie.Need-add-resolve-in Inv-loop μ-loop
-add-resolve-in c = let at-page = c .before .before .before .before .before .before in omega (arith, range-top (allowed-range _ _ (at-page .before .before .before .before .before .pre .0)))
+add-resolve-in c = let at-page = c .before .before .before .before .before .before in omega (arith, range-top (allowed-range _ _ _ (at-page .before .before .before .before .before .pre .0)))
 
 resolve-in-requires : tie.Need-resolve-in-requires Inv-loop μ-loop
 resolve-in-requires c κs = search needs
@@ -54,7 +54,7 @@ add-i : tie.Need-add-i Inv-loop μ-loop
 add-i c =
     let at-test = c .before .before .before .before .before .before in
     let start = at-test .before .before .before .before .before .before .before .before .before .before .before in
-    omega (arith, at-test .loop-test .taken, allowed-range _ _ (start .pre .0) .most)
+    omega (arith, at-test .loop-test .taken, allowed-range _ _ _ (start .pre .0) .most)
 
 loop-less : tie.Need-loop-less Inv-loop μ-loop
 loop-less c = search needs
@@ -66,7 +66,7 @@ loop-again c =
     let sound = sound-rows (now (start .args .rows)) (start .args .space) (now (start .args .image)) (now (start .args .pagefile)) in
     let found = c .before .before .before .before .before .resolve-in .ensures in
     let page = c .before .before .before .mapped-page .ensures in
-    let next = mapping-next (at-test .before .loop .inv) sound (start .pre .1) (start .pre .0) (at-test .loop-test .taken) in
+    let next = mapping-next (at-test .before .loop .inv) sound (start .pre .1) (placed-allowed (start .args .space .mode) _ _ ∙ start .pre .0) (at-test .loop-test .taken) in
     next _ found _ page _ _ (c .before .before .push .ensures)
 
 finish-requires : tie.Need-finish-requires Inv-loop μ-loop

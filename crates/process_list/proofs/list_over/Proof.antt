@@ -1,14 +1,14 @@
 -- The case is opened, then 50 for the head, then the two passes in its world.
 use native.Mathlib.Omega.{arith}
 use lib.ListN.{length-take}
-use Rattle.case.proofs.Opening.{refused-case, accepted-case}
+use Rattle.case.proofs.Opening.{refused-case, accepted-four}
 use Rattle.process_list.proofs.Answers.{refused-case-list, unaligned-head, list-answered}
 use borrow.Author.Needs.{needs}
 use Rattle.process_list.proofs.list_over.Statement.{statement}
 use Rattle.process_list.proofs.list_over.Tie as tie
 
-open-case-requires : tie.Need-open-case-requires
-open-case-requires c κs = search needs
+open-four-levels-requires : tie.Need-open-four-levels-requires
+open-four-levels-requires c κs = search needs
 
 enum-known-fault : tie.Need-enum-known-fault
 enum-known-fault c = search needs
@@ -29,22 +29,22 @@ returns : tie.Need-returns
 returns c =
     let at-space = c .before .before .before in
     let at-open = at-space .before .before .before .before in
-    let opened = accepted-case _ _ _ _ _ _ (at-open .before .before .before .before .before .before .before .pre) (at-open .open-case .ensures) (at-space .space .given .1) in
+    let opened = accepted-four _ _ _ _ _ _ (at-open .before .before .before .before .before .before .before .pre) (at-open .open-four-levels .ensures) (at-space .space .given .1) in
     unaligned-head _ _ _ _ _ _ opened (c .before .if1 .taken) _ (c .not-written .ensures)
 
 slice-reshare-prefix-list-in : tie.Need-slice-reshare-prefix-list-in
 slice-reshare-prefix-list-in c =
     let at-space = c .before .before in
     let at-open = at-space .before .before .before .before in
-    let opened = accepted-case _ _ _ _ _ _ (at-open .before .before .before .before .before .before .before .pre) (at-open .open-case .ensures) (at-space .space .given .1) in
-    omega (arith, opened .few, at-open .before .before .before .before .before .before .before .pre)
+    let opened = accepted-four _ _ _ _ _ _ (at-open .before .before .before .before .before .before .before .pre) (at-open .open-four-levels .ensures) (at-space .space .given .1) in
+    omega (arith, opened .case .few, at-open .before .before .before .before .before .before .before .pre)
 
 slice-aggregate-list-in : tie.Need-slice-aggregate-list-in
 slice-aggregate-list-in c =
     let at-space = c .before .before .before in
     let at-open = at-space .before .before .before .before in
-    let opened = accepted-case _ _ _ _ _ _ (at-open .before .before .before .before .before .before .before .pre) (at-open .open-case .ensures) (at-space .space .given .1) in
-    simp length-take (omega (arith, opened .few, at-open .before .before .before .before .before .before .before .pre))
+    let opened = accepted-four _ _ _ _ _ _ (at-open .before .before .before .before .before .before .before .pre) (at-open .open-four-levels .ensures) (at-space .space .given .1) in
+    simp length-take (omega (arith, opened .case .few, at-open .before .before .before .before .before .before .before .pre))
 
 list-in-requires : tie.Need-list-in-requires
 list-in-requires c κs = search needs
@@ -54,8 +54,8 @@ same-length-2 c = search needs
 
 returns-2 : tie.Need-returns-2
 returns-2 c =
-    let at-open-case = c .before .before .before .before .before .before in
-    refused-case-list _ _ _ _ (refused-case _ _ _ _ _ (at-open-case .open-case .ensures) (c .before .before .fault .given .1)) _ (c .fault-written .ensures)
+    let at-open-four-levels = c .before .before .before .before .before .before in
+    refused-case-list _ _ _ _ (refused-case _ _ _ _ _ (at-open-four-levels .open-four-levels .ensures) (c .before .before .fault .given .1)) _ (c .fault-written .ensures)
 
 same-length-3 : tie.Need-same-length-3
 same-length-3 c = search needs
@@ -67,14 +67,14 @@ returns-3 : tie.Need-returns-3
 returns-3 c =
     let at-space = c .before .before .before .before .before .before .before in
     let at-open = at-space .before .before .before .before in
-    let opened = accepted-case _ _ _ _ _ _ (at-open .before .before .before .before .before .before .before .pre) (at-open .open-case .ensures) (at-space .space .given .1) in
+    let opened = accepted-four _ _ _ _ _ _ (at-open .before .before .before .before .before .before .before .pre) (at-open .open-four-levels .ensures) (at-space .space .given .1) in
     list-answered _ _ _ _ _ _ opened (c .before .before .before .before .before .if1 .left) _ _ (c .before .before .list-in .ensures)
 
 pub list-over-spec : {M : Type 1} → statement M
 list-over-spec =
     tie.close
     (tie.spec
-    open-case-requires
+    open-four-levels-requires
     enum-known-fault
     fault-written-requires
     enum-known-space

@@ -9,7 +9,9 @@ resolve-in-requires : tie.Need-resolve-in-requires
 resolve-in-requires c κs = search needs
 
 link-at-requires : tie.Need-link-at-requires
-link-at-requires c κs = word-placed _ _ _ _ _ _ (c .resolve-in .ensures) (c .before .before .before .before .pre) _ refl
+link-at-requires c κs =
+    let start = c .before .before .before .before in
+    word-placed _ (start .args .space) _ _ _ _ (c .resolve-in .ensures) (start .pre) _ refl
 
 returns : tie.Need-returns
 returns c = c .link-at .ensures ∙ link-placed _ _ _ (c .before .resolve-in .ensures) _ refl

@@ -7,13 +7,13 @@ use Rattle.sheet_writer.proofs.write_fields.Statement.{statement}
 use Rattle.sheet_writer.proofs.write_fields.Tie as tie
 
 write-header-requires : tie.Need-write-header-requires
-write-header-requires c κs = let ready = c .before .before .before .before .pre in (ready .directory, omega (arith, count-most ready))
+write-header-requires c κs = let ready = c .before .before .before .before .pre in (ready .directory, (ready .place, omega (arith, count-most ready)))
 
 write-runs-requires : tie.Need-write-runs-requires
 write-runs-requires c κs =
     let at-header = c .before .before .before in
     let start = at-header .before .before .before .before .before in
-    (omega (arith, at-header .write-header .ensures .place, header-length (start .args .header) (count-most (start .pre))), (start .pre .given, start .pre .order))
+    (omega (arith, at-header .write-header .ensures .place, header-length (start .args .header) (start .pre .place) (count-most (start .pre))), (start .pre .given, start .pre .order))
 
 same-length : tie.Need-same-length
 same-length c = search needs

@@ -1,0 +1,46 @@
+-- By the mode.
+use native.Mathlib.Omega.{arith}
+use borrow.Author.Needs.{needs}
+use Rattle.walk.proofs.resolve_in.Statement.{statement}
+use Rattle.walk.proofs.resolve_in.Tie as tie
+
+enum-told : tie.Need-enum-told
+enum-told c = search needs
+
+resolve-requires : tie.Need-resolve-requires
+resolve-requires c κs = omega arith
+
+enum-told-2 : tie.Need-enum-told-2
+enum-told-2 c = search needs
+
+resolve-narrow-requires : tie.Need-resolve-narrow-requires
+resolve-narrow-requires c κs = rw (c .enum-told2 .given .1) tt
+
+enum-told-3 : tie.Need-enum-told-3
+enum-told-3 c = search needs
+
+resolve-narrow-requires-2 : tie.Need-resolve-narrow-requires-2
+resolve-narrow-requires-2 c κs = rw (c .enum-told3 .given .1) tt
+
+returns : tie.Need-returns
+returns c = rw (c .before .before .enum-told .given .1) (c .resolve .ensures)
+
+returns-2 : tie.Need-returns-2
+returns-2 c = search needs
+
+returns-3 : tie.Need-returns-3
+returns-3 c = search needs
+
+pub resolve-in-spec : {M : Type 1} → statement M
+resolve-in-spec =
+    tie.close
+    (tie.spec
+    enum-told
+    resolve-requires
+    enum-told-2
+    resolve-narrow-requires
+    enum-told-3
+    resolve-narrow-requires-2
+    returns
+    returns-2
+    returns-3)

@@ -1,0 +1,1 @@
+// Laws of the walk, proved of its definitions; no code.
