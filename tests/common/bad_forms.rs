@@ -13,20 +13,19 @@ use crate::second::slip::Slip;
 
 const TOO_LONG: u64 = BAD_FORMS[0];
 
-const KINDS: usize = 6;
-
 /// In so many cases each bad form is put into each kind of field; a sheet of one run has no later gap.
 pub const BAD_FORM_CASES: u64 = LEAST_TIMES + LEAST_TIMES / 5;
 
 /// The kinds of fields that a sheet or a map has.
 pub struct Format {
-    kinds: [&'static str; KINDS],
-    /// The kind of the field that comes after these.
-    next: fn(&[u64]) -> usize,
+    kinds: &'static [&'static str],
+    /// The kind of the field that comes after these; none in a sheet of the other edition.
+    next: fn(&[u64]) -> Option<usize>,
 }
 
+/// A sheet of edition 1.
 pub const SHEET: Format = Format {
-    kinds: [
+    kinds: &[
         "edition",
         "directory page",
         "run count",
@@ -37,8 +36,22 @@ pub const SHEET: Format = Format {
     next: next_in_sheet,
 };
 
+/// A sheet of edition 2 behind its edition, in which a bad form tells nothing of either edition.
+pub const SHEET_WITH_MODE: Format = Format {
+    kinds: &[
+        "directory page",
+        "mode",
+        "place",
+        "run count",
+        "first gap",
+        "later gap",
+        "length",
+    ],
+    next: next_with_mode,
+};
+
 pub const MAP: Format = Format {
-    kinds: [
+    kinds: &[
         "edition",
         "start page",
         "page count",
@@ -49,18 +62,27 @@ pub const MAP: Format = Format {
     next: next_in_map,
 };
 
-fn next_in_sheet(before: &[u64]) -> usize {
-    const FIRST_GAP: usize = 3;
-    const LATER_GAP: usize = 4;
-    const LENGTH: usize = 5;
-    match before.len() {
-        place @ 0..=FIRST_GAP => place,
-        place if place % 2 == FIRST_GAP % 2 => LATER_GAP,
-        _ => LENGTH,
+fn next_in_sheet(before: &[u64]) -> Option<usize> {
+    let with_mode = before.first() == Some(&2);
+    (!with_mode).then(|| next_after(before.len(), 3))
+}
+
+fn next_with_mode(before: &[u64]) -> Option<usize> {
+    let with_mode = before.first() == Some(&2);
+    with_mode.then(|| next_after(before.len() - 1, 4))
+}
+
+/// The kind of the field at a place; the first gap has this one, then the later gaps and the lengths take turns.
+fn next_after(place: usize, first_gap: usize) -> usize {
+    let [later_gap, length] = [first_gap + 1, first_gap + 2];
+    match place {
+        place if place <= first_gap => place,
+        place if place % 2 == first_gap % 2 => later_gap,
+        _ => length,
     }
 }
 
-fn next_in_map(before: &[u64]) -> usize {
+fn next_in_map(before: &[u64]) -> Option<usize> {
     const CODE: usize = 3;
     const LENGTH: usize = 4;
     const FIRST_PAGE: usize = 5;
@@ -75,7 +97,7 @@ fn next_in_map(before: &[u64]) -> usize {
             _ => CODE,
         };
     }
-    kind
+    Some(kind)
 }
 
 impl Format {
@@ -86,7 +108,7 @@ impl Format {
         random: &mut Xorshift,
         take: &mut dyn FnMut(Vec<u8>, &mut Xorshift),
     ) {
-        for kind in 0..KINDS {
+        for kind in 0..self.kinds.len() {
             for form in BAD_FORMS {
                 if let Some(bytes) = self.with_form(fields, kind, *form, random) {
                     take(bytes, random);
@@ -97,7 +119,7 @@ impl Format {
 
     /// The fields with one of any kind in any bad form.
     pub fn with_bad_form(&self, fields: &[u64], random: &mut Xorshift) -> Vec<u8> {
-        let kind = random.below(KINDS as u64) as usize;
+        let kind = random.below(self.kinds.len() as u64) as usize;
         let form = BAD_FORMS[random.below(2) as usize];
         let bytes = self.with_form(fields, kind, form, random);
         bytes.unwrap_or_else(|| sheet_of(fields))
@@ -112,7 +134,7 @@ impl Format {
         random: &mut Xorshift,
     ) -> Option<Vec<u8>> {
         let places: Vec<usize> = (0..fields.len())
-            .filter(|place| (self.next)(&fields[..*place]) == kind)
+            .filter(|place| (self.next)(&fields[..*place]) == Some(kind))
             .collect();
         if places.is_empty() {
             return None;
@@ -137,7 +159,10 @@ impl Format {
         while numbers.position() < position {
             before.push(numbers.read().ok()?);
         }
-        (numbers.position() == position).then(|| (self.next)(&before))
+        match numbers.position() == position {
+            true => (self.next)(&before),
+            false => None,
+        }
     }
 }
 
@@ -164,7 +189,7 @@ fn not_shortest(value: u64, random: &mut Xorshift) -> Vec<u8> {
 pub struct FormTimes {
     call: &'static str,
     format: &'static Format,
-    times: [[u64; 2]; KINDS],
+    times: Vec<[u64; 2]>,
 }
 
 impl FormTimes {
@@ -172,7 +197,7 @@ impl FormTimes {
         FormTimes {
             call,
             format,
-            times: [[0; 2]; KINDS],
+            times: vec![[0; 2]; format.kinds.len()],
         }
     }
 
@@ -231,6 +256,36 @@ pub const STATED_SHEETS: [Stated; 14] = [
     (&[0x01, 0x00, 0x01, 0x00, 0x81], 10, 0),
     (&[0x01, 0x00, 0x01, 0x00, 0x80, 0x80, 0x80, 0x80, 0x80, 0x02], 12, 0),
     (&[0x01, 0x00, 0x00], 12, 0),
+];
+
+/// Sheets of edition 2 by 02, orders 7 and 9: mode and place are numbers like the others, each judged when it is read.
+#[rustfmt::skip]
+pub const STATED_WITH_MODE: [Stated; 25] = [
+    (&[0x02], 10, 0),
+    (&[0x02, 0x05], 10, 0),
+    (&[0x02, 0x05, 0x81], 10, 0),
+    (&[0x02, 0x05, 0x02], 10, 0),
+    (&[0x02, 0x05, 0x02, 0xC1], 10, 0),
+    (&[0x02, 0x05, 0x02, 0x41], 10, 0),
+    (&[0x02, 0x05, 0x00], 12, 0),
+    (&[0x02, 0x05, 0x03], 12, 0),
+    (&[0x02, 0x05, 0x7F, 0x80, 0x00], 12, 0),
+    (&[0x02, 0x05, 0x80, 0x01], 12, 0),
+    (&[0x02, 0x05, 0x80, 0x80, 0x80, 0x80, 0x80, 0x02], 12, 0),
+    (&[0x02, 0x05, 0x01, 0x01], 12, 0),
+    (&[0x02, 0x05, 0x01, 0x7F, 0x80, 0x00], 12, 0),
+    (&[0x02, 0x05, 0x02, 0x80, 0x01], 12, 0),
+    (&[0x02, 0x05, 0x02, 0x80, 0x80, 0x80, 0x80, 0x80, 0x02], 12, 0),
+    (&[0x02, 0x05, 0x82, 0x00, 0x00], 18, 2),
+    (&[0x02, 0x05, 0x80, 0x00, 0x00], 18, 2),
+    (&[0x02, 0x87, 0x03, 0x82, 0x80, 0x80, 0x80, 0x80, 0x80, 0x00], 11, 3),
+    (&[0x02, 0x05, 0x02, 0xC1, 0x00], 18, 3),
+    (&[0x02, 0x05, 0x01, 0x80, 0x00], 18, 3),
+    (&[0x02, 0x87, 0x03, 0x02, 0xFF, 0xFF, 0xFF, 0xFF, 0xFF, 0xFF], 11, 4),
+    (&[0x02, 0x05, 0x02, 0x7F, 0x81, 0x00], 18, 4),
+    (&[0x02, 0x05, 0x01, 0x00, 0x00], 12, 0),
+    (&[0x02, 0x05, 0x02, 0x7F, 0x01, 0x00, 0x00], 13, 0),
+    (&[0x03, 0x05, 0x02, 0x80, 0x00], 12, 0),
 ];
 
 /// Maps by 02, order 9, likewise.

@@ -8,8 +8,8 @@ pub const LAST_LEVEL: u32 = 4;
 pub const FRAME_LIMIT: u64 = 1 << 36;
 
 pub const VALID: u64 = 1;
-const LARGE: u64 = 1 << 7;
-const PROTOTYPE: u64 = 1 << 10;
+pub const LARGE: u64 = 1 << 7;
+pub const PROTOTYPE: u64 = 1 << 10;
 pub const TRANSITION: u64 = 1 << 11;
 const IN_STORE: u64 = 1 << 22;
 
@@ -333,7 +333,7 @@ impl Memory {
     }
 
     /// None, all, or some at random of the bits that say nothing.
-    fn noise(&mut self, ignored: u64) -> u64 {
+    pub fn noise(&mut self, ignored: u64) -> u64 {
         match self.random.below(4) {
             0 => 0,
             1 => ignored,
@@ -587,9 +587,14 @@ fn scattered_frames(random: &mut Xorshift) -> Vec<u64> {
 
 /// The frames of runs of these lengths, ascending; the last run ends at the top or anywhere.
 pub fn frames_in_runs(lengths: &[u64], to_top: bool, random: &mut Xorshift) -> Vec<u64> {
-    let widest = 1 + random.below(36);
+    frames_below(FRAME_LIMIT, lengths, to_top, random)
+}
+
+/// The same with another top.
+pub fn frames_below(limit: u64, lengths: &[u64], to_top: bool, random: &mut Xorshift) -> Vec<u64> {
+    let widest = 1 + random.below(u64::from(limit.ilog2()));
     // Each page needs a frame, and each run but the first a gap.
-    let mut room = FRAME_LIMIT - lengths.iter().sum::<u64>() - (lengths.len() as u64 - 1);
+    let mut room = limit - lengths.iter().sum::<u64>() - (lengths.len() as u64 - 1);
     let mut frames = Vec::new();
     let mut next = 0;
     for (run, length) in lengths.iter().enumerate() {

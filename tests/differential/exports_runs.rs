@@ -8,6 +8,8 @@ use crate::exports_map::Written;
 pub struct CaseRead {
     pub number: u64,
     pub directory: u64,
+    pub mode: u64,
+    pub place: u64,
     pub length: u64,
 }
 

@@ -6,6 +6,8 @@ use crate::second::sheet_writer::Given;
 extern "C" {
     fn glint_write_sheet(
         directory: u64,
+        mode: u64,
+        place: u64,
         starts: *const u64,
         starts_length: usize,
         lengths: *const u64,
@@ -20,6 +22,8 @@ pub fn write_sheet(given: &Given, out: &mut [u8]) -> Written {
     unsafe {
         glint_write_sheet(
             given.directory_page,
+            given.mode,
+            given.place,
             given.starts.as_ptr(),
             given.starts.len(),
             given.lengths.as_ptr(),

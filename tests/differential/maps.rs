@@ -33,7 +33,7 @@ mod second {
 use common::arguments;
 use common::bad_forms::{self, FormTimes, MAP, SHEET, STATED_MAPS, STATED_SHEETS};
 use common::case_files::CaseFiles;
-use common::codes::{CASE_REFUSALS, EXTENT_CODES, NOT_CANONICAL};
+use common::codes::{CASE_REFUSALS, EXTENT_CODES, MODE_ZERO_CODES, NOT_CANONICAL};
 use common::many_runs::ByRuns;
 use common::print::{hex, with_commas};
 use common::tally::{print_table, Tally};
@@ -110,8 +110,8 @@ impl Comparison {
             slip,
             cases: 0,
             maps: Tally::new("map call", map_numbers()),
-            codes: Tally::new("maps with code", EXTENT_CODES.to_vec()),
-            codes_by_runs: ByRuns::new("maps with code", EXTENT_CODES.to_vec()),
+            codes: Tally::new("maps with code", MODE_ZERO_CODES.to_vec()),
+            codes_by_runs: ByRuns::new("maps with code", MODE_ZERO_CODES.to_vec()),
             maps_by_forms: FormTimes::new("map call", &SHEET),
             lookups_by_forms: FormTimes::new("other maps", &MAP),
             lookups: Tally::new("lookup", lookup_numbers()),
@@ -321,11 +321,11 @@ fn report(comparison: &Comparison) -> bool {
         reasons.push(format!("differs: {}", comparison.differing));
     }
     reasons.extend(comparison.maps.reasons(&map_numbers()));
-    reasons.extend(comparison.codes.reasons(EXTENT_CODES));
+    reasons.extend(comparison.codes.reasons(MODE_ZERO_CODES));
     reasons.extend(comparison.codes_by_runs.reasons(&[1, 23]));
     reasons.extend(comparison.maps_by_forms.reasons());
     reasons.extend(comparison.lookups_by_forms.reasons());
-    reasons.extend(comparison.lookups.reasons(EXTENT_CODES));
+    reasons.extend(comparison.lookups.reasons(MODE_ZERO_CODES));
     reasons.extend(comparison.lookups.reasons(OF_ADDRESS));
     reasons.extend(comparison.other_lookups.reasons(&lookup_numbers()));
     judge_stated("P2", &P2, &p2_files(), &mut reasons);

@@ -8,7 +8,7 @@ mod ignored_bits;
 mod program_cases;
 mod tables;
 
-use common::codes::address_numbers;
+use common::codes::{address_numbers, STATE_NOT_FOLLOWED};
 use program_cases::Stated;
 use std::fs;
 use std::io::{self, Write};
@@ -232,6 +232,7 @@ impl Runs {
         fs::remove_dir_all(&self.folder)?;
         let unseen: Vec<u64> = address_numbers()
             .into_iter()
+            .chain([STATE_NOT_FOLLOWED])
             .filter(|number| !self.seen.contains(number))
             .collect();
         if !unseen.is_empty() {
@@ -289,9 +290,14 @@ fn bad_sheets(runs: &mut Runs) -> io::Result<()> {
     let sheet = case.sheet();
     let short_image = &case.image[4096..];
     let cut_pagefile = &case.pagefile[1..];
-    let sheets: [(Vec<u8>, &[u8], &[u8], u64, &str); 8] = [
+    let sheets: [(Vec<u8>, &[u8], &[u8], u64, &str); 13] = [
         (sheet[..5].to_vec(), &case.image, &case.pagefile, 10, "the last length is missing"),
-        (sheet_of(&[2, 0x100, 1, 0x100, 12]), &case.image, &case.pagefile, 12, "edition 2"),
+        (sheet_of(&[3, 0x100, 1, 0x100, 12]), &case.image, &case.pagefile, 12, "edition 3"),
+        (sheet_of(&[2, 0x100, 0, 0, 1, 0x100, 12]), &case.image, &case.pagefile, 12, "edition 2 with mode 0"),
+        (sheet_of(&[2, 0x100, 3, 0, 1, 0x100, 12]), &case.image, &case.pagefile, 12, "mode 3"),
+        (sheet_of(&[2, 0x100, 1, 1, 1, 0x100, 12]), &case.image, &case.pagefile, 12, "a place in mode 1"),
+        (sheet_of(&[2, 0x100, 2, 128, 1, 0x100, 12]), &case.image, &case.pagefile, 12, "place 128"),
+        (sheet_of(&[2, 0x100, 2, 127, 1, 0x100, 12]), &case.image, cut_pagefile, 16, "place 127 is judged good"),
         (sheet_of(&[1, 0x100, 1001]), &case.image, &case.pagefile, 12, "1,001 runs"),
         (sheet_of(&[1, 0x100, 1, 0x100, 0]), &case.image, &case.pagefile, 13, "length 0"),
         ([&sheet[..], &[0]].concat(), &case.image, &case.pagefile, 14, "a byte behind the last field"),
@@ -312,7 +318,7 @@ fn bad_sheets(runs: &mut Runs) -> io::Result<()> {
 
 /// Sheets with a number at fault (02, order 9): the number that is printed, and the offset.
 #[rustfmt::skip]
-const BAD_NUMBERS: [(&[u8], u64, u64, &str); 16] = [
+const BAD_NUMBERS: [(&[u8], u64, u64, &str); 20] = [
     (&[0x80, 0x00], 18, 0, "P10: not the shortest form"),
     (&[0x81, 0x80, 0x80, 0x80, 0x80, 0x80, 0x00], 11, 0, "the edition in seven groups"),
     (&[0x01, 0x80, 0x82, 0x00, 0x01, 0x00, 0x0C], 18, 1, "the directory page with a needless group"),
@@ -327,7 +333,11 @@ const BAD_NUMBERS: [(&[u8], u64, u64, &str); 16] = [
     (&[0x01, 0x00, 0x02, 0x00, 0x01, 0x81, 0x80, 0x80, 0x80, 0x80, 0x80], 11, 5, "a later gap over six groups"),
     (&[0x01, 0x80, 0x80, 0x80, 0x80, 0x80], 10, 0, "five groups, then the end: no position"),
     (&[0x01, 0x00, 0x01, 0x00, 0x80, 0x80, 0x80, 0x80, 0x80, 0x02], 12, 0, "2^36 in six groups: no position"),
-    (&[0x02, 0x80, 0x00], 12, 0, "the edition is judged before a later number"),
+    (&[0x03, 0x80, 0x00], 12, 0, "the edition is judged before a later number"),
+    (&[0x02, 0x80, 0x02, 0x82, 0x00, 0x00], 18, 3, "the mode with a needless group"),
+    (&[0x02, 0x80, 0x02, 0x02, 0xC1, 0x80, 0x80, 0x80, 0x80, 0x80], 11, 4, "the place over six groups"),
+    (&[0x02, 0x80, 0x02, 0x00, 0x80, 0x00], 12, 0, "the mode is judged before the place"),
+    (&[0x02, 0x80, 0x02, 0x01, 0x01, 0x80, 0x00], 12, 0, "the place is judged before the run count"),
     (&[0x01, 0x00, 0x02, 0x00, 0x00, 0x80, 0x00], 13, 0, "the first run is judged before a later number"),
 ];
 

@@ -29,6 +29,8 @@ pub fn groups() -> Vec<Group> {
         pages_of_zeros(),
         directory_in_no_run(),
         runs_with_gaps(),
+        plain(),
+        pae(),
     ]
 }
 
@@ -443,5 +445,112 @@ fn runs_with_gaps() -> Group {
         what: "runs with gaps",
         case,
         stated: list,
+    }
+}
+
+/// Entries of 4 bytes: the top table at frame 5, tables at frames 6 and 7, pages at frames 0x403 and 0x404.
+const PLAIN_ENTRIES: [(u64, u64); 14] = [
+    (0x5000, 0x6001),
+    (0x5004, 0x0040_1081),
+    (0x5008, 0x0040_2081),
+    (0x500C, 0x0060_0081),
+    (0x5010, 0x6800),
+    (0x5014, 0x9001),
+    (0x5FFC, 0x7001),
+    (0x6000, 0xFFFF_FFFF),
+    (0x6004, 0x0040_3801),
+    (0x6008, 0x0040_3880),
+    (0x600C, 0x0040_3C00),
+    (0x6010, 0x0040_3400),
+    (0x6014, 0x80),
+    (0x7FFC, 0x0040_4081),
+];
+
+#[rustfmt::skip]
+const PLAIN_ANSWERS: [(u64, Answer, &str); 17] = [
+    (0x0000_0000, [23, 0, 2], "frame 0xFFFFF in no run; 4-byte entries have no bits 48-51"),
+    (0x0000_1123, [1, 0x3123, 2], "valid, frame 0x403 is image page 3"),
+    (0x0000_2FFF, [1, 0x3FFF, 2], "transition, with bit 7"),
+    (0x0000_3000, [34, 0, 2], "bits 10 and 11: prototype"),
+    (0x0000_4000, [34, 0, 2], "bit 10: prototype"),
+    (0x0000_5000, [34, 0, 2], "a software entry"),
+    (0x0000_6000, [34, 0, 2], "the whole entry 0"),
+    (0x0040_3ABC, [1, 0x3ABC, 1], "4 MiB, address bits 12-21; bit 12 says nothing"),
+    (0x0040_4ABC, [1, 0x4ABC, 1], "the next frame of the same 4 MiB page"),
+    (0x0040_5000, [23, 0, 1], "the frame after it, in no run"),
+    (0x0080_3000, [24, 0, 1], "4 MiB with bit 13"),
+    (0x0080_5000, [24, 0, 1], "4 MiB with bit 13, before the frame in no run"),
+    (0x00C0_3000, [24, 0, 1], "4 MiB with bit 21"),
+    (0x0100_0000, [21, 0, 1], "the top entry in transition"),
+    (0x0140_0000, [23, 0, 1], "a table in no run"),
+    (0xFFFF_FFFF, [1, 0x4FFF, 2], "the last address, by entries 0x3FF and 0x3FF"),
+    (0x1_0000_0000, [20, 0, 0], "2^32"),
+];
+
+/// Two levels of tables with entries of 4 bytes.
+fn plain() -> Group {
+    let mut case = Case::new(5, &[(5, 3), (0x403, 2)], 1);
+    case.mode = 1;
+    for (physical, entry) in PLAIN_ENTRIES {
+        case.put(physical, entry);
+    }
+    Group {
+        what: "mode 1, plain 32-bit paging",
+        case,
+        stated: all_stated(&PLAIN_ANSWERS),
+    }
+}
+
+/// The entries that document 000 prints in 3.1, then some of our own.
+const PAE_ENTRIES: [(u64, u64); 15] = [
+    (0x0760_0838, 0x0DA6_B801),
+    (0x0DA6_B0B8, 0x073F_1963),
+    (0x073F_1308, 0x11DF_3921),
+    (0x073F_1310, 0xE1B1_1510_0000_0400),
+    (0x0760_0820, 0x0DA6_B0E7),
+    (0x0760_0828, 0x0001_0000_0DA6_B001),
+    (0x0760_0830, 0x0DA6_B800),
+    (0x0DA6_B0C0, 0x11DF_E0E7),
+    (0x0DA6_B0C8, 0x0002_0000_11C0_0081),
+    (0x0DA6_B0D0, 0x073F_1800),
+    (0x0DA6_B0D8, 0x0009_9001),
+    (0x073F_1318, 0xFFFF_0000_11DF_3800),
+    (0x073F_1320, 0x0008_0000_11DF_3001),
+    (0x073F_1328, 0xFFF0_0000_11DF_3081),
+    (0x073F_1330, 0x0000_0001_11DF_3001),
+];
+
+#[rustfmt::skip]
+const PAE_ANSWERS: [(u64, Answer, &str); 16] = [
+    (0xC2E6_1940, [1, 0x3940, 3], "000's translation: frame 0x11DF3 is image page 3"),
+    (0xC2E6_2940, [34, 0, 3], "000's entry after the last: a prototype"),
+    (0x02E6_1940, [1, 0x3940, 3], "bits 1-2 and 5-7 of a top entry say nothing"),
+    (0x42E6_1940, [24, 0, 1], "a top entry with bit 48"),
+    (0x82E6_1940, [21, 0, 1], "a top entry in transition"),
+    (0xC2E6_3940, [1, 0x3940, 3], "transition, bits 48-63 say nothing"),
+    (0xC2E6_4000, [24, 0, 3], "valid, with bit 51"),
+    (0xC2E6_5001, [1, 0x3001, 3], "bits 7 and 52-63 say nothing"),
+    (0xC2E6_6000, [23, 0, 3], "frame 0x111DF3 in no run"),
+    (0xC2E6_7000, [34, 0, 3], "the whole entry 0"),
+    (0xC31F_3123, [1, 0x3123, 2], "2 MiB, address bits 12-20; entry bits 12-20 say nothing"),
+    (0xC31F_4123, [23, 0, 2], "the next frame of the same 2 MiB page, in no run"),
+    (0xC33F_3000, [24, 0, 2], "2 MiB with bit 49"),
+    (0xC34F_3000, [21, 0, 2], "a middle entry in transition"),
+    (0xC370_0000, [23, 0, 2], "a table in no run"),
+    (0x1_0000_0000, [20, 0, 0], "2^32"),
+];
+
+/// Four top entries at 65 times 32 bytes in their page, then two levels of tables.
+fn pae() -> Group {
+    let runs = [(0x73F1, 1), (0x7600, 1), (0xDA6B, 1), (0x11DF3, 1)];
+    let mut case = Case::new(0x7600, &runs, 2);
+    (case.mode, case.place) = (2, 65);
+    for (physical, entry) in PAE_ENTRIES {
+        case.put(physical, entry);
+    }
+    Group {
+        what: "mode 2, PAE: the worked translation of 000",
+        case,
+        stated: all_stated(&PAE_ANSWERS),
     }
 }

@@ -1,11 +1,11 @@
 //! Sheets, file lengths and buffers on which two readers of a case's runs are compared.
 
-use crate::common::bad_forms::SHEET;
+use crate::common::bad_forms::{SHEET, SHEET_WITH_MODE};
 use crate::common::groups::{sheet_of, shortest};
 use crate::common::random::Xorshift;
 use crate::second::number::NUMBER_LIMIT;
 use crate::second::runs::NUMBERS_A_RUN;
-use crate::second::sheet::{run_bytes_read, PAGE_BYTES};
+use crate::second::sheet::{run_bytes_read, LAST_PLACE, PAE, PAGE_BYTES, PLAIN};
 
 /// One question to the call: `room` is how many numbers the buffer has.
 pub struct Question {
@@ -16,9 +16,6 @@ pub struct Question {
 }
 
 const MOST_RUNS: u64 = 1000;
-
-/// The fields before the runs: edition, directory page, run count.
-const FIELDS_BEFORE_RUNS: usize = 3;
 
 /// Hands so many questions to `take`, the same ones for the same seed.
 pub fn each_question(seed: u64, cases: u64, take: &mut dyn FnMut(&Question)) {
@@ -33,16 +30,18 @@ pub fn each_question(seed: u64, cases: u64, take: &mut dyn FnMut(&Question)) {
 /// A good sheet, or one with a fault of each kind in turn; lengths and room that fit it, or do not.
 fn question(random: &mut Xorshift) -> Question {
     let fields = good_fields(random);
-    let runs = (fields.len() - FIELDS_BEFORE_RUNS) / 2;
+    let at_count = count_place(&fields);
+    let runs = fields[at_count] as usize;
     let sheet = match random.below(12) {
         0 => cut_short(&fields, random),
-        1 => SHEET.with_bad_form(&fields, random),
+        1 if at_count == 2 => SHEET.with_bad_form(&fields, random),
+        1 => SHEET_WITH_MODE.with_bad_form(&fields, random),
         2 => with_form(
             &fields,
             &shortest(NUMBER_LIMIT + random.up_to_bits(40)),
             random,
         ),
-        3 => with_wrong_count_or_edition(fields, random),
+        3 => with_wrong_number(fields, random),
         4 => with_wrong_run(fields, random),
         5 => [
             sheet_of(&fields),
@@ -63,7 +62,26 @@ fn question(random: &mut Xorshift) -> Question {
     }
 }
 
-/// Edition, directory page, run count, then gap and length of each run, all within their limits.
+/// Where the run count is: behind the directory page, and in edition 2 behind mode and place.
+fn count_place(fields: &[u64]) -> usize {
+    match fields[0] {
+        2 => 4,
+        _ => 2,
+    }
+}
+
+/// The fields of a sheet of either edition up to the run count.
+fn good_header(random: &mut Xorshift) -> Vec<u64> {
+    let directory_page = random.up_to_bits(36);
+    match random.below(8) {
+        0 | 1 => vec![2, directory_page, PLAIN, 0],
+        2 => vec![2, directory_page, PAE, random.below(2) * LAST_PLACE],
+        3 => vec![2, directory_page, PAE, random.below(LAST_PLACE + 1)],
+        _ => vec![1, directory_page],
+    }
+}
+
+/// The header, run count, then gap and length of each run, all within their limits.
 fn good_fields(random: &mut Xorshift) -> Vec<u64> {
     let runs = match random.below(64) {
         0..=15 => 1,
@@ -72,7 +90,8 @@ fn good_fields(random: &mut Xorshift) -> Vec<u64> {
         _ => 1 + random.below(40),
     };
     let widest = 1 + random.below(36);
-    let mut fields = vec![1, random.up_to_bits(36), runs];
+    let mut fields = good_header(random);
+    fields.push(runs);
     // Each run needs a gap and a length of at least one page.
     let mut left = NUMBER_LIMIT - 2 * runs;
     for run in 0..runs {
@@ -98,20 +117,24 @@ fn with_form(fields: &[u64], form: &[u8], random: &mut Xorshift) -> Vec<u8> {
     [sheet_of(before), form.to_vec(), sheet_of(after)].concat()
 }
 
-fn with_wrong_count_or_edition(mut fields: Vec<u64>, random: &mut Xorshift) -> Vec<u8> {
-    match random.below(4) {
-        0 => fields[0] = random.below(2) * 2,
-        1 => fields[2] = 0,
-        2 => fields[2] = MOST_RUNS + 1 + random.below(4),
-        _ => fields[2] += 1,
+/// Another edition, mode or place, or a wrong run count.
+fn with_wrong_number(mut fields: Vec<u64>, random: &mut Xorshift) -> Vec<u8> {
+    let at_count = count_place(&fields);
+    match random.below(6) {
+        0 => fields[0] = random.below(4),
+        1 if at_count == 4 => fields[2] = random.below(5),
+        2 if at_count == 4 => fields[3] = random.below(LAST_PLACE + 8),
+        3 => fields[at_count] = 0,
+        4 => fields[at_count] = MOST_RUNS + 1 + random.below(4),
+        _ => fields[at_count] += 1,
     }
     sheet_of(&fields)
 }
 
 /// A gap of 0 after the first run, a length of 0, or an end past the top.
 fn with_wrong_run(mut fields: Vec<u64>, random: &mut Xorshift) -> Vec<u8> {
-    let runs = (fields.len() - FIELDS_BEFORE_RUNS) / 2;
-    let gap = FIELDS_BEFORE_RUNS + 2 * random.below(runs as u64) as usize;
+    let at_count = count_place(&fields);
+    let gap = at_count + 1 + 2 * random.below(fields[at_count]) as usize;
     match random.below(3) {
         0 => fields[gap] = 0,
         1 => fields[gap + 1] = 0,

@@ -26,12 +26,14 @@ mod second {
 }
 
 use common::arguments;
-use common::bad_forms::{judge_stated, FormTimes, SHEET, STATED_SHEETS};
+use common::bad_forms::{
+    judge_stated, FormTimes, SHEET, SHEET_WITH_MODE, STATED_SHEETS, STATED_WITH_MODE,
+};
 use common::codes::CASE_REFUSALS;
 use common::print::{hex, with_commas};
 use common::tally::{print_table, Tally};
 use run_cases::{each_question, Question};
-use second::runs::{case_runs, image_length, NUMBERS_A_RUN};
+use second::runs::{case_runs, image_length, CaseRead, NUMBERS_A_RUN};
 use second::sheet::read_sheet;
 use second::slip::{Slip, CASE_SLIPS, FORM_SLIPS};
 use std::process::ExitCode;
@@ -54,6 +56,12 @@ const LONGER: u64 = 3;
 /// Run counts of cases told; 2 stands for 2 to 32, 33 for 33 to 999.
 const RUN_COUNTS: &[u64] = &[1, 2, 33, 1000];
 
+/// The modes of cases told.
+const MODES: &[u64] = &[0, 1, 2];
+
+/// Places of cases told in mode 2; 1 stands for 1 to 126.
+const PLACES: &[u64] = &[0, 1, 127];
+
 /// P1 of the paper: sheet, image length, directory page, numbers of its runs.
 const P1: (&[u8], u64, u64, [u64; 6]) = (
     &[
@@ -72,7 +80,8 @@ const GUARD: usize = 8;
 
 fn main() -> ExitCode {
     let slips = [CASE_SLIPS, FORM_SLIPS].concat();
-    arguments::run("runs", 100_000, &slips, |arguments| {
+    // Half of them are of edition 1.
+    arguments::run("runs", 200_000, &slips, |arguments| {
         let mut comparison = Comparison::new(arguments.slip);
         each_question(arguments.seed, arguments.cases, &mut |question| {
             comparison.compare(question)
@@ -89,8 +98,12 @@ struct Comparison {
     lengths: Tally,
     numbers_by_forms: FormTimes,
     lengths_by_forms: FormTimes,
+    numbers_with_mode: FormTimes,
+    lengths_with_mode: FormTimes,
     rooms: Tally,
     run_counts: Tally,
+    modes: Tally,
+    places: Tally,
     differing: u64,
     shown: Vec<String>,
     buffers: [Vec<u64>; 2],
@@ -105,8 +118,12 @@ impl Comparison {
             lengths: Tally::new("image length", LENGTH_NUMBERS.to_vec()),
             numbers_by_forms: FormTimes::new("case", &SHEET),
             lengths_by_forms: FormTimes::new("image length", &SHEET),
+            numbers_with_mode: FormTimes::new("case", &SHEET_WITH_MODE),
+            lengths_with_mode: FormTimes::new("image length", &SHEET_WITH_MODE),
             rooms: Tally::new("room", ROOMS.to_vec()),
             run_counts: Tally::new("runs told", RUN_COUNTS.to_vec()),
+            modes: Tally::new("modes told", MODES.to_vec()),
+            places: Tally::new("places told", PLACES.to_vec()),
             differing: 0,
             shown: Vec::new(),
             buffers: [Vec::new(), Vec::new()],
@@ -148,23 +165,31 @@ impl Comparison {
             &mut our_buffer[..room],
             self.slip,
         );
-        let theirs = [theirs.number, theirs.directory, theirs.length];
-        let ours = [ours.number, ours.directory, ours.length];
+        let (theirs, ours) = (of_export(&theirs), of_second(&ours));
         let place = (0..room + GUARD).find(|place| their_buffer[*place] != our_buffer[*place]);
         let words = place.map(|place| [their_buffer[place], our_buffer[place]]);
         self.count(question, ours);
         (theirs != ours || place.is_some()).then(|| {
             format!(
-                "\n  number, directory, length: exports {:?}, second reader {:?}\n  word {:?}: {:?}",
+                "\n  number, directory, mode, place, length: exports {:?}, second reader {:?}\n  word {:?}: {:?}",
                 theirs, ours, place, words
             )
         })
     }
 
-    fn count(&mut self, question: &Question, [number, _, length]: [u64; 3]) {
+    fn count(&mut self, question: &Question, [number, _, mode, place, length]: Fields) {
         self.numbers.count(number);
-        self.numbers_by_forms.count(&question.sheet, number, length);
+        for forms in [&mut self.numbers_by_forms, &mut self.numbers_with_mode] {
+            forms.count(&question.sheet, number, length);
+        }
         if number == 0 {
+            self.modes.count(mode);
+            if mode == 2 {
+                self.places.count(match place {
+                    1..=126 => 1,
+                    _ => place,
+                });
+            }
             self.run_counts.count(match length {
                 2..=32 => 2,
                 33..=999 => 33,
@@ -188,7 +213,9 @@ impl Comparison {
         let theirs = exports_runs::image_length(sheet);
         let ours = image_length(sheet, self.slip);
         self.lengths.count(ours.number);
-        self.lengths_by_forms.count(sheet, ours.number, ours.length);
+        for forms in [&mut self.lengths_by_forms, &mut self.lengths_with_mode] {
+            forms.count(sheet, ours.number, ours.length);
+        }
         let theirs = [theirs.number, theirs.length];
         let ours = [ours.number, ours.length];
         (theirs != ours).then(|| {
@@ -198,6 +225,29 @@ impl Comparison {
             )
         })
     }
+}
+
+/// Number, directory, mode, place, length.
+type Fields = [u64; 5];
+
+fn of_export(read: &exports_runs::CaseRead) -> Fields {
+    [
+        read.number,
+        read.directory,
+        read.mode,
+        read.place,
+        read.length,
+    ]
+}
+
+fn of_second(read: &CaseRead) -> Fields {
+    [
+        read.number,
+        read.directory,
+        read.mode,
+        read.place,
+        read.length,
+    ]
 }
 
 /// More than any number of a run.
@@ -220,8 +270,14 @@ fn case_text(case: u64, question: &Question) -> String {
 fn report(comparison: &Comparison) -> bool {
     print_table(&[&comparison.numbers, &comparison.lengths]);
     print_table(&[&comparison.rooms, &comparison.run_counts]);
-    comparison.numbers_by_forms.print();
-    comparison.lengths_by_forms.print();
+    print_table(&[&comparison.modes, &comparison.places]);
+    let by_forms = [
+        &comparison.numbers_by_forms,
+        &comparison.lengths_by_forms,
+        &comparison.numbers_with_mode,
+        &comparison.lengths_with_mode,
+    ];
+    by_forms.iter().for_each(|forms| forms.print());
     comparison
         .shown
         .iter()
@@ -234,8 +290,9 @@ fn report(comparison: &Comparison) -> bool {
     reasons.extend(comparison.lengths.reasons(LENGTH_NUMBERS));
     reasons.extend(comparison.rooms.reasons(ROOMS));
     reasons.extend(comparison.run_counts.reasons(RUN_COUNTS));
-    reasons.extend(comparison.numbers_by_forms.reasons());
-    reasons.extend(comparison.lengths_by_forms.reasons());
+    reasons.extend(comparison.modes.reasons(MODES));
+    reasons.extend(comparison.places.reasons(PLACES));
+    reasons.extend(by_forms.iter().flat_map(|forms| forms.reasons()));
     judge_p1(&mut reasons);
     judge_stated_sheets(&mut reasons);
     reasons.iter().for_each(|reason| println!("{}", reason));
@@ -253,28 +310,26 @@ fn judge_p1(reasons: &mut Vec<String>) {
     let theirs = exports_runs::case_runs(sheet, length, 0, their_buffer);
     let ours = case_runs(sheet, length, 0, our_buffer, Slip::None);
     let asked = exports_runs::image_length(sheet);
-    let answers = [
-        [theirs.number, theirs.directory, theirs.length],
-        [ours.number, ours.directory, ours.length],
-    ];
+    let answers = [of_export(&theirs), of_second(&ours)];
     let lengths = [asked.length, image_length(sheet, Slip::None).length];
-    if answers != [[0, directory, 2]; 2] || buffers != [numbers; 2] || lengths != [length; 2] {
+    if answers != [[0, directory, 0, 0, 2]; 2] || buffers != [numbers; 2] || lengths != [length; 2]
+    {
         reasons.push(format!("P1: {:?} {:?} {:?}", answers, buffers, lengths));
     }
 }
 
 /// Both readers against sheets that are refused as stated.
 fn judge_stated_sheets(reasons: &mut Vec<String>) {
-    for stated in &STATED_SHEETS {
+    for stated in STATED_SHEETS.iter().chain(&STATED_WITH_MODE) {
         let sheet = stated.0;
         let mut judge = |whose, answer| judge_stated(whose, stated, answer, reasons);
         let theirs = exports_runs::case_runs(sheet, 0, 0, &mut []);
         let ours = case_runs(sheet, 0, 0, &mut [], Slip::None);
-        judge(
-            "exported case",
-            [theirs.number, theirs.length, theirs.directory],
-        );
-        judge("second case", [ours.number, ours.length, ours.directory]);
+        // Beside a refusal all but its position are 0.
+        let rest = theirs.directory | theirs.mode | theirs.place;
+        judge("exported case", [theirs.number, theirs.length, rest]);
+        let rest = ours.directory | ours.mode | ours.place;
+        judge("second case", [ours.number, ours.length, rest]);
         let theirs = exports_runs::image_length(sheet);
         let ours = image_length(sheet, Slip::None);
         judge("exported image length", [theirs.number, theirs.length, 0]);

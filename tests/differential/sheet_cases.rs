@@ -1,10 +1,10 @@
 //! The sheets and file lengths on which two sheet readers are compared.
 
-use crate::common::bad_forms::STATED_SHEETS;
+use crate::common::bad_forms::{STATED_SHEETS, STATED_WITH_MODE};
 use crate::common::groups::{in_groups, sheet_of, shortest};
 use crate::common::random::Xorshift;
 use crate::second::number::NUMBER_LIMIT;
-use crate::second::sheet::{run_bytes_read, MOST_RUNS};
+use crate::second::sheet::{run_bytes_read, LAST_PLACE, MOST_RUNS, PAE, PLAIN};
 
 /// One question to a sheet reader.
 pub struct Record<'a> {
@@ -27,8 +27,8 @@ const PAGEFILE_LENGTHS: [u64; 5] = [0, 4096, 4095, 1, 8192];
 /// Zero, the least and greatest numbers, and both values and states of the top bit.
 const CHOSEN_BYTES: [u8; 7] = [0x00, 0x01, 0x02, 0x7F, 0x80, 0x81, 0xFF];
 
-/// Sheets of one, two and three runs; the second is P1.
-const PLAIN_SHEETS: [&[u64]; 3] = [
+/// Sheets of one, two and three runs; the second is P1. Then sheets of edition 2: mode 1, and places within and at the edge.
+const USUAL_SHEETS: [&[u64]; 6] = [
     &[1, 0, 1, 0, 5],
     &[1, 0x187, 2, 1, 0x9E, 0x61, 0x3FEF0],
     &[
@@ -42,17 +42,21 @@ const PLAIN_SHEETS: [&[u64]; 3] = [
         1 << 35,
         200,
     ],
+    &[2, 5, PLAIN, 0, 1, 0, 5],
+    &[2, 0x7600, PAE, 65, 2, 1, 0x9E, 0x61, 0x3FEF0],
+    &[2, NUMBER_LIMIT - 1, PAE, LAST_PLACE, 1, 3, 1 << 20],
 ];
 
 /// Hands every record to `take`, the same ones in the same order at each call.
 pub fn each_record(longer: bool, take: &mut dyn FnMut(&Record)) {
     let mut records = Records { take, made: 0 };
-    for (sheet, ..) in STATED_SHEETS {
+    for (sheet, ..) in STATED_SHEETS.iter().chain(&STATED_WITH_MODE) {
         records.add_with_all_lengths(sheet);
     }
     all_short_sheets(&mut records);
     sheets_of_chosen_bytes(&mut records, if longer { 7 } else { 6 });
     forms_in_every_field(&mut records);
+    mode_and_place_pairs(&mut records);
     gap_and_length_pairs(&mut records);
     ends_around_the_top(&mut records);
     run_counts(&mut records);
@@ -62,7 +66,7 @@ pub fn each_record(longer: bool, take: &mut dyn FnMut(&Record)) {
     truncations(&mut records);
     damaged_long_sheets(&mut records);
     file_lengths(&mut records);
-    changed_sheets(&mut records, 40_000);
+    changed_sheets(&mut records, 60_000);
 }
 
 struct Records<'t> {
@@ -119,8 +123,13 @@ fn all_short_sheets(records: &mut Records) {
 
 /// All strings of chosen bytes up to a length, alone and behind the start of a sheet.
 fn sheets_of_chosen_bytes(records: &mut Records, longest: u32) {
-    let prefixes: [&[u8]; 3] = [&[], &[1, 0, 1], &[1, 0, 2, 0, 1]];
-    for prefix in prefixes {
+    let prefixes: [(&[u8], u32); 4] = [
+        (&[], longest),
+        (&[1, 0, 1], longest),
+        (&[1, 0, 2, 0, 1], longest),
+        (&[2, 0], longest - 1),
+    ];
+    for (prefix, longest) in prefixes {
         for length in 0..=longest {
             for which in 0..CHOSEN_BYTES.len().pow(length) {
                 records.add_in_turn(&chosen_bytes(prefix, length, which));
@@ -141,7 +150,7 @@ fn chosen_bytes(prefix: &[u8], length: u32, mut which: usize) -> Vec<u8> {
 
 /// Each form below in the place of each field, the sheet ending there or at any later byte.
 fn forms_in_every_field(records: &mut Records) {
-    for fields in PLAIN_SHEETS {
+    for fields in USUAL_SHEETS {
         for field in 0..fields.len() {
             let before = sheet_of(&fields[..field]);
             let after = sheet_of(&fields[field + 1..]);
@@ -151,6 +160,20 @@ fn forms_in_every_field(records: &mut Records) {
                     records.add_with_all_lengths(&sheet[..end]);
                 }
             }
+        }
+    }
+}
+
+/// Each mode and each place in each form, the sheet ending behind them or going on.
+fn mode_and_place_pairs(records: &mut Records) {
+    let forms = number_forms(LAST_PLACE);
+    let good_rest = sheet_of(&[1, 0, 5]);
+    for mode in &forms {
+        for place in &forms {
+            let header = [&sheet_of(&[2, 0x187])[..], mode, place].concat();
+            records.add_in_turn(&header);
+            records.add_in_turn(&[&header[..], &good_rest].concat());
+            records.add_in_turn(&[&header[..], &[0x80, 0]].concat());
         }
     }
 }
@@ -323,7 +346,7 @@ fn fields_at_edges(run_count: u64) -> Vec<usize> {
 
 /// Good sheets with bytes behind them, up to the longest sheet.
 fn trailing_bytes(records: &mut Records) {
-    for fields in PLAIN_SHEETS {
+    for fields in USUAL_SHEETS {
         let sheet = sheet_of(fields);
         for byte in CHOSEN_BYTES {
             for more in [1, 2, 6, 7, LONGEST_SHEET - sheet.len()] {
@@ -340,6 +363,7 @@ fn truncations(records: &mut Records) {
     let mut sheets = vec![sheet_of(&six_groups)];
     for widest in [7, 14, 21, 28, 31] {
         sheets.push(random.sheet(32, widest));
+        sheets.push(random.sheet_with_mode(32, widest));
     }
     for sheet in sheets {
         for end in 0..=sheet.len() {
@@ -348,18 +372,10 @@ fn truncations(records: &mut Records) {
     }
 }
 
-/// Good sheets of more than 32 runs that end at a place, or whose byte there is changed, dropped or doubled.
+/// Good sheets that end at a place, or whose byte there is changed, dropped or doubled.
 fn damaged_long_sheets(records: &mut Records) {
     let mut random = Xorshift::seeded(2);
-    for (run_count, widest) in [
-        (33, 28),
-        (127, 21),
-        (128, 14),
-        (210, 21),
-        (999, 21),
-        (MOST_RUNS, 26),
-    ] {
-        let sheet = random.sheet(run_count, widest);
+    for sheet in sheets_to_damage(&mut random) {
         for place in sampled_places(sheet.len(), &mut random) {
             let (before, after) = (&sheet[..place], &sheet[place + 1..]);
             let byte = sheet[place];
@@ -376,6 +392,22 @@ fn damaged_long_sheets(records: &mut Records) {
             }
         }
     }
+}
+
+/// Sheets of edition 1 with more than 32 runs, and of edition 2 with few and with many.
+fn sheets_to_damage(random: &mut Xorshift) -> Vec<Vec<u8>> {
+    let of_edition_1 = [
+        (33, 28),
+        (127, 21),
+        (128, 14),
+        (210, 21),
+        (999, 21),
+        (MOST_RUNS, 26),
+    ];
+    let of_edition_2 = [(1, 31), (2, 7), (3, 33), (32, 21), (127, 14), (210, 21)];
+    let sheets = of_edition_1.map(|(run_count, widest)| random.sheet(run_count, widest));
+    let others = of_edition_2.map(|(run_count, widest)| random.sheet_with_mode(run_count, widest));
+    sheets.into_iter().chain(others).collect()
 }
 
 /// Every place of a sheet, or of a long one the first, the last and some between.
@@ -405,7 +437,7 @@ fn file_lengths(records: &mut Records) {
         u64::MAX - 4095,
         u64::MAX,
     ];
-    for fields in PLAIN_SHEETS.into_iter().chain(large_sums) {
+    for fields in USUAL_SHEETS.into_iter().chain(large_sums) {
         let sheet = sheet_of(fields);
         let right = run_bytes_read(&sheet);
         let image_lengths = [
@@ -438,7 +470,10 @@ fn changed_sheets(records: &mut Records, how_many: usize) {
             _ => 1 + random.below(32),
         };
         let widest = 1 + random.below(36);
-        let mut sheet = random.sheet(run_count, widest);
+        let mut sheet = match random.below(3) {
+            0 => random.sheet_with_mode(run_count, widest),
+            _ => random.sheet(run_count, widest),
+        };
         let place = random.below(sheet.len() as u64) as usize;
         match random.below(4) {
             0 => {}
@@ -453,7 +488,24 @@ fn changed_sheets(records: &mut Records, how_many: usize) {
 impl Xorshift {
     /// A good sheet with so many runs, gaps and lengths of about so many bits at most.
     fn sheet(&mut self, run_count: u64, widest: u64) -> Vec<u8> {
-        let mut fields = vec![1, self.up_to_bits(36), run_count];
+        let header = [1, self.up_to_bits(36)];
+        self.sheet_behind(&header, run_count, widest)
+    }
+
+    /// The same of edition 2, in either mode, the place often at an edge.
+    fn sheet_with_mode(&mut self, run_count: u64, widest: u64) -> Vec<u8> {
+        let directory_page = self.up_to_bits(36);
+        let header = match self.below(4) {
+            0 => [2, directory_page, PLAIN, 0],
+            1 => [2, directory_page, PAE, LAST_PLACE],
+            2 => [2, directory_page, PAE, 0],
+            _ => [2, directory_page, PAE, self.below(LAST_PLACE + 1)],
+        };
+        self.sheet_behind(&header, run_count, widest)
+    }
+
+    fn sheet_behind(&mut self, header: &[u64], run_count: u64, widest: u64) -> Vec<u8> {
+        let mut fields = [header, &[run_count]].concat();
         // Each run needs a gap and a length of at least one page.
         let mut room = NUMBER_LIMIT - 2 * run_count;
         for run in 0..run_count {

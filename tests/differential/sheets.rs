@@ -19,12 +19,12 @@ mod second {
 }
 mod sheet_cases;
 
-use common::bad_forms::{FormTimes, SHEET, STATED_SHEETS};
+use common::bad_forms::{FormTimes, SHEET, SHEET_WITH_MODE, STATED_SHEETS, STATED_WITH_MODE};
 use common::codes::{BAD_FORMS, CASE_REFUSALS};
 use common::print::{hex, with_commas};
 use common::tally::{print_table, Tally};
 use second::number::Fault;
-use second::sheet::{check_sheet, Case};
+use second::sheet::{check_sheet, Case, FOUR_LEVEL, PAE, PLAIN};
 use second::slip::{self, Slip, FORM_SLIPS, SHEET_SLIPS};
 use sheet_cases::{each_record, Record, ACCEPTED_RUN_COUNTS};
 use std::io::{self, BufRead, BufReader, BufWriter, Write};
@@ -38,6 +38,8 @@ fn answers() -> Vec<u64> {
     [&[0], CASE_REFUSALS].concat()
 }
 
+const MODES: &[u64] = &[FOUR_LEVEL, PLAIN, PAE];
+
 /// How many differing cases are printed.
 const MOST_SHOWN: usize = 5;
 
@@ -50,7 +52,7 @@ const P1: (&[u8], u64, &str) = (
         0x01, 0x87, 0x03, 0x02, 0x01, 0x9E, 0x01, 0x61, 0xF0, 0xFD, 0x0F,
     ],
     0x3FF8E000,
-    "0 391 2 1 158 256 261872\n",
+    "0 391 0 0 2 1 158 256 261872\n",
 );
 
 /// The faults of the second reader that are tried here.
@@ -119,8 +121,11 @@ struct Comparison {
     cases: u64,
     answers: Tally,
     bad_forms: FormTimes,
+    bad_forms_with_mode: FormTimes,
     /// The accepted sheets of certain run counts.
     runs: Tally,
+    /// The accepted sheets of each mode.
+    modes: Tally,
     differing: u64,
     shown: Vec<String>,
     missing: u64,
@@ -166,7 +171,9 @@ fn compare_lines(mut output: impl BufRead, slip: Slip, longer: bool) -> io::Resu
         cases: 0,
         answers: Tally::new("answer", answers()),
         bad_forms: FormTimes::new("sheet", &SHEET),
+        bad_forms_with_mode: FormTimes::new("edition 2", &SHEET_WITH_MODE),
         runs: Tally::new("accepted, runs", ACCEPTED_RUN_COUNTS.to_vec()),
+        modes: Tally::new("accepted, mode", MODES.to_vec()),
         differing: 0,
         shown: Vec::new(),
         missing: 0,
@@ -199,10 +206,17 @@ fn compare_line(comparison: &mut Comparison, record: &Record, line: &[u8], slip:
     );
     let fault = answer.as_ref().err().copied().unwrap_or(0.into());
     comparison.answers.count(fault.number());
-    comparison
-        .bad_forms
-        .count(record.sheet, fault.number(), fault.position);
+    for forms in [
+        &mut comparison.bad_forms,
+        &mut comparison.bad_forms_with_mode,
+    ] {
+        forms.count(record.sheet, fault.number(), fault.position);
+    }
     if let Ok(case) = &answer {
+        // Only a slip takes another mode.
+        if MODES.contains(&case.mode) {
+            comparison.modes.count(case.mode);
+        }
         let count = case.runs.len() as u64;
         if ACCEPTED_RUN_COUNTS.contains(&count) {
             comparison.runs.count(count);
@@ -230,7 +244,8 @@ fn line_of(answer: &Result<Case, Fault>) -> String {
         }
         Err(fault) => format!("{}\n", fault.refusal),
         Ok(case) => {
-            let mut line = format!("0 {} {}", case.directory_page, case.runs.len());
+            let space = [case.directory_page, case.mode, case.place].map(|n| n.to_string());
+            let mut line = format!("0 {} {}", space.join(" "), case.runs.len());
             for run in &case.runs {
                 line += &format!(" {} {}", run.first_frame, run.pages);
             }
@@ -257,7 +272,9 @@ fn differing_case(record: &Record, line: &[u8], wanted: &str) -> String {
 fn report(comparison: &Comparison, status: ExitStatus) -> bool {
     print_table(&[&comparison.answers]);
     print_table(&[&comparison.runs]);
+    print_table(&[&comparison.modes]);
     comparison.bad_forms.print();
+    comparison.bad_forms_with_mode.print();
     comparison
         .shown
         .iter()
@@ -290,7 +307,9 @@ fn reasons_to_fail(comparison: &Comparison, status: ExitStatus) -> Vec<String> {
     }
     reasons.extend(comparison.answers.reasons(&answers()));
     reasons.extend(comparison.runs.reasons(ACCEPTED_RUN_COUNTS));
+    reasons.extend(comparison.modes.reasons(MODES));
     reasons.extend(comparison.bad_forms.reasons());
+    reasons.extend(comparison.bad_forms_with_mode.reasons());
     for (sheet, image_length, line) in stated() {
         let ours = line_of(&check_sheet(sheet, image_length, 0, Slip::None));
         if ours != line {
@@ -307,7 +326,8 @@ fn reasons_to_fail(comparison: &Comparison, status: ExitStatus) -> Vec<String> {
 /// Answers that the papers themselves state: sheet, image length, line.
 fn stated() -> Vec<(&'static [u8], u64, String)> {
     let (sheet, image_length, line) = P1;
-    let refused = STATED_SHEETS.iter().map(|(sheet, number, position)| {
+    let refused = STATED_SHEETS.iter().chain(&STATED_WITH_MODE);
+    let refused = refused.map(|(sheet, number, position)| {
         let line = match BAD_FORMS.contains(number) {
             true => format!("{} {}\n", number, position),
             false => format!("{}\n", number),

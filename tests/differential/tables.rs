@@ -5,6 +5,9 @@ pub const PAGE_BYTES: usize = 4096;
 /// A sheet's directory page and runs, and the bytes of the two files.
 pub struct Case {
     pub directory: u64,
+    /// The mode, and the directory's place in its page in units of 32 bytes.
+    pub mode: u64,
+    pub place: u64,
     /// First frame and pages of each run, ascending.
     pub runs: Vec<(u64, u64)>,
     pub image: Vec<u8>,
@@ -16,15 +19,21 @@ impl Case {
         let pages: u64 = runs.iter().map(|(_, pages)| pages).sum();
         Case {
             directory,
+            mode: 0,
+            place: 0,
             runs: runs.to_vec(),
             image: vec![0; pages as usize * PAGE_BYTES],
             pagefile: vec![0; pagefile_pages * PAGE_BYTES],
         }
     }
 
-    /// The sheet's bytes: edition, directory page, run count, and gap and length of each run.
+    /// The sheet's bytes: edition, directory page, mode and place but for mode 0, run count, and gap and length of each run.
     pub fn sheet(&self) -> Vec<u8> {
-        let mut fields = vec![1, self.directory, self.runs.len() as u64];
+        let mut fields = match self.mode {
+            0 => vec![1, self.directory],
+            mode => vec![2, self.directory, mode, self.place],
+        };
+        fields.push(self.runs.len() as u64);
         let mut end = 0;
         for (first, pages) in &self.runs {
             fields.extend([first - end, *pages]);
@@ -33,13 +42,17 @@ impl Case {
         sheet_of(&fields)
     }
 
-    /// Puts an entry at a physical address.
+    /// Puts an entry of the mode's bytes at a physical address.
     pub fn put(&mut self, physical: u64, entry: u64) {
+        let bytes = match self.mode {
+            1 => 4,
+            _ => 8,
+        };
         let mut start = 0;
         for (first, pages) in &self.runs {
             if (*first..first + pages).contains(&(physical >> 12)) {
                 let offset = start + (physical - (first << 12)) as usize;
-                self.image[offset..offset + 8].copy_from_slice(&entry.to_le_bytes());
+                self.image[offset..offset + bytes].copy_from_slice(&entry.to_le_bytes()[..bytes]);
                 return;
             }
             start += *pages as usize * PAGE_BYTES;

@@ -69,6 +69,8 @@ const PAGEFILE_LENGTHS: [u64; 3] = [0, PAGE_BYTES, 1 << 63];
 /// The sheet that the paper states.
 const P1: Given = Given {
     directory_page: 0x187,
+    mode: 0,
+    place: 0,
     starts: &[0x1, 0x100],
     lengths: &[0x9E, 0x3FEF0],
 };
@@ -76,8 +78,19 @@ const P1_SHEET: [u8; 11] = [
     0x01, 0x87, 0x03, 0x02, 0x01, 0x9E, 0x01, 0x61, 0xF0, 0xFD, 0x0F,
 ];
 
+/// The same runs in mode 2, with a directory's place.
+const PAE_P1: Given = Given {
+    mode: 2,
+    place: 65,
+    ..P1
+};
+const PAE_P1_SHEET: [u8; 13] = [
+    0x02, 0x87, 0x03, 0x02, 0x41, 0x02, 0x01, 0x9E, 0x01, 0x61, 0xF0, 0xFD, 0x0F,
+];
+
 fn main() -> ExitCode {
-    arguments::run("write_sheets", 200_000, WRITER_SLIPS, |arguments| {
+    // Half of them are of mode 0.
+    arguments::run("write_sheets", 400_000, WRITER_SLIPS, |arguments| {
         let mut comparison = Comparison::new(arguments.slip);
         each_case(arguments.seed, arguments.cases, &mut |case| {
             comparison.compare(case)
@@ -113,6 +126,8 @@ fn read_by_export(sheet: &[u8], image_length: u64, pagefile_length: u64) -> Resu
     let runs = numbers.chunks(NUMBERS_A_RUN).take(read.length as usize);
     Ok(Read {
         directory_page: read.directory,
+        mode: read.mode,
+        place: read.place,
         runs: runs
             .map(|run| Run {
                 first_frame: run[0],
@@ -129,7 +144,8 @@ struct Comparison {
     numbers: Tally,
     met: Met,
     read_back: u64,
-    written_again: u64,
+    /// The accepted sheets of each mode.
+    written_again: [u64; 3],
     differing: u64,
     shown: Vec<String>,
     buffers: [Vec<u8>; 2],
@@ -143,7 +159,7 @@ impl Comparison {
             numbers: Tally::new("sheet", NUMBERS.to_vec()),
             met: Met::new(),
             read_back: 0,
-            written_again: 0,
+            written_again: [0; 3],
             differing: 0,
             shown: Vec::new(),
             buffers: [Vec::new(), Vec::new()],
@@ -207,11 +223,20 @@ impl Comparison {
         let pagefile_length = PAGEFILE_LENGTHS[self.read_back as usize % PAGEFILE_LENGTHS.len()];
         let sheet = self.written(length);
         let by_export = read_by_export(sheet, image_length, pagefile_length);
-        let by_second = check_sheet(sheet, image_length, pagefile_length, reader_slip(self.slip));
+        let mut by_second =
+            check_sheet(sheet, image_length, pagefile_length, reader_slip(self.slip));
+        match (&mut by_second, self.slip) {
+            (Ok(read), Slip::ReadBackInModeZero) => read.mode = 0,
+            (Ok(read), Slip::ReadBackAtPlaceZero) => read.place = 0,
+            _ => {}
+        }
         let fault = |read: Result<Read, Fault>| match read {
             Err(fault) => Some(format!("{:?}", fault)),
             Ok(read) if read.directory_page != given.directory_page => {
                 Some(format!("directory page 0x{:X}", read.directory_page))
+            }
+            Ok(read) if [read.mode, read.place] != [given.mode, given.place] => {
+                Some(format!("mode {}, place {}", read.mode, read.place))
             }
             Ok(read) if read.runs != joined => Some("other runs".to_string()),
             Ok(_) => None,
@@ -235,15 +260,17 @@ impl Comparison {
         let Ok(case) = check_sheet(sheet, image_length, pagefile_length, slip) else {
             return;
         };
-        self.written_again += 1;
+        self.written_again[case.mode as usize] += 1;
         let starts: Vec<u64> = case.runs.iter().map(|run| run.first_frame).collect();
         let lengths: Vec<u64> = case.runs.iter().map(|run| run.pages).collect();
         let given = Given {
             directory_page: case.directory_page,
+            mode: case.mode,
+            place: case.place,
             starts: &starts,
             lengths: &lengths,
         };
-        let room = sheet.len() + self.written_again as usize % 3;
+        let room = sheet.len() + self.written_again.iter().sum::<u64>() as usize % 3;
         let mut differences = Vec::new();
         let [[number, length], _] = self.write(&given, room, &mut differences);
         if number != 0 || self.written(length) != sheet {
@@ -281,8 +308,10 @@ fn given_text(given: &Given, room: usize) -> String {
         format!("{} [{}]", list.len(), words.join(" "))
     };
     format!(
-        "directory page 0x{:X}, starts {}, lengths {}, into {} bytes",
+        "directory page 0x{:X}, mode {}, place {}, starts {}, lengths {}, into {} bytes",
         given.directory_page,
+        given.mode,
+        given.place,
         list_text(given.starts),
         list_text(given.lengths),
         room
@@ -319,16 +348,20 @@ fn report(comparison: &Comparison) -> bool {
     }
     reasons.extend(comparison.numbers.reasons(NUMBERS));
     reasons.extend(comparison.met.reasons());
+    let [four_level, plain, pae] = comparison.written_again;
     for (what, times) in [
         ("read back", comparison.read_back),
-        ("written again", comparison.written_again),
+        ("written again, mode 0", four_level),
+        ("written again, mode 1", plain),
+        ("written again, mode 2", pae),
     ] {
         println!("{:>30}{:>12}", what, with_commas(times));
         if times < LEAST_TIMES {
             reasons.push(format!("{}: {} times, wanted {}", what, times, LEAST_TIMES));
         }
     }
-    judge_p1(&mut reasons);
+    judge_stated(&P1, &P1_SHEET, &mut reasons);
+    judge_stated(&PAE_P1, &PAE_P1_SHEET, &mut reasons);
     reasons.iter().for_each(|reason| println!("{}", reason));
     if reasons.is_empty() {
         println!(
@@ -339,16 +372,16 @@ fn report(comparison: &Comparison) -> bool {
     reasons.is_empty()
 }
 
-/// Both writers against the sheet that the paper states.
-fn judge_p1(reasons: &mut Vec<String>) {
-    let mut buffers = [[0; P1_SHEET.len()]; 2];
+/// Both writers against a stated sheet.
+fn judge_stated(given: &Given, sheet: &[u8], reasons: &mut Vec<String>) {
+    let mut buffers = [vec![0; sheet.len()], vec![0; sheet.len()]];
     let [their_buffer, our_buffer] = &mut buffers;
-    let theirs = exports_writer::write_sheet(&P1, their_buffer);
-    let ours = write_sheet(&P1, our_buffer, Slip::None);
+    let theirs = exports_writer::write_sheet(given, their_buffer);
+    let ours = write_sheet(given, our_buffer, Slip::None);
     let answers = [[theirs.number, theirs.length], [ours.number, ours.length]];
     for (answer, buffer) in answers.iter().zip(&buffers) {
-        if *answer != [0, P1_SHEET.len() as u64] || *buffer != P1_SHEET {
-            reasons.push(format!("P1: {:?} [{}]", answer, hex(buffer)));
+        if *answer != [0, sheet.len() as u64] || buffer != sheet {
+            reasons.push(format!("[{}]: {:?} [{}]", hex(sheet), answer, hex(buffer)));
         }
     }
 }

@@ -1,16 +1,22 @@
-//! The directory pages and runs of which two writers of sheets write.
+//! The directory pages, modes, places and runs of which two writers of sheets write.
 
 use crate::common::random::Xorshift;
 use crate::second::number::NUMBER_LIMIT;
-use crate::second::sheet::Run;
+use crate::second::sheet::{Run, FOUR_LEVEL, LAST_PLACE, PAE, PLAIN};
 use crate::second::sheet_writer::{Given, MOST_GIVEN};
 
 /// Numbers that are too large: the least, the next, one that ends in 36 zeros, the largest.
 const TOO_LARGE: [u64; 4] = [NUMBER_LIMIT, NUMBER_LIMIT + 1, 1 << 63, u64::MAX];
 
+/// Modes and places past their limits: the next ones, one that fits no byte, and the largest.
+const OTHER_MODES: [u64; 4] = [PAE + 1, PAE + 2, NUMBER_LIMIT, u64::MAX];
+const OTHER_PLACES: [u64; 4] = [LAST_PLACE + 1, LAST_PLACE + 2, NUMBER_LIMIT, u64::MAX];
+
 /// What a sheet is written of, and the room for it.
 pub struct Case {
     directory_page: u64,
+    mode: u64,
+    place: u64,
     starts: Vec<u64>,
     lengths: Vec<u64>,
     room: Room,
@@ -20,6 +26,8 @@ impl Case {
     pub fn given(&self) -> Given<'_> {
         Given {
             directory_page: self.directory_page,
+            mode: self.mode,
+            place: self.place,
             starts: &self.starts,
             lengths: &self.lengths,
         }
@@ -79,7 +87,13 @@ impl Xorshift {
         for _ in 0..misses {
             self.miss_runs(&mut runs);
         }
+        let mode = [FOUR_LEVEL, FOUR_LEVEL, PLAIN, PAE][self.below(4) as usize];
         let mut case = Case {
+            mode,
+            place: match mode {
+                PAE => self.good_place(),
+                _ => 0,
+            },
             directory_page: match self.below(8) {
                 0 => NUMBER_LIMIT - 1,
                 _ => self.up_to_bits(36),
@@ -91,7 +105,34 @@ impl Xorshift {
         if self.one_in(4) {
             self.miss_numbers(&mut case);
         }
+        if self.one_in(8) {
+            self.miss_mode_or_place(&mut case);
+        }
         case
+    }
+
+    /// A place of a PAE directory, often at an edge.
+    fn good_place(&mut self) -> u64 {
+        match self.below(4) {
+            0 => 0,
+            1 => LAST_PLACE,
+            _ => self.below(LAST_PLACE + 1),
+        }
+    }
+
+    /// Makes the mode or the place too large, or gives a mode a place that it cannot have.
+    fn miss_mode_or_place(&mut self, case: &mut Case) {
+        match self.below(4) {
+            0 => case.mode = OTHER_MODES[self.below(4) as usize],
+            1 => {
+                case.mode = PAE;
+                case.place = OTHER_PLACES[self.below(4) as usize];
+            }
+            turn => {
+                case.mode = [FOUR_LEVEL, PLAIN][turn as usize - 2];
+                case.place = 1 + self.below(LAST_PLACE);
+            }
+        }
     }
 
     fn room(&mut self) -> Room {

@@ -3,7 +3,7 @@
 use crate::common::print::with_commas;
 use crate::common::tally::LEAST_TIMES;
 use crate::second::number::NUMBER_LIMIT;
-use crate::second::sheet::{Run, RUN_WRONG};
+use crate::second::sheet::{Run, FOUR_LEVEL, LAST_PLACE, PAE, PLAIN, RUN_WRONG};
 use crate::second::sheet_writer::{
     causes_of, end_of, joined_runs, sheet_bytes, Cause, Given, MOST_GIVEN,
 };
@@ -25,6 +25,14 @@ things! {
     DirectoryTooLargeAlone
     DirectoryOf2To36Alone
     DirectoryOf64BitsAlone
+    ModeTooLargeAlone
+    ModeThreeAlone
+    ModeOf64BitsAlone
+    PlaceTooLargeAlone
+    PlaceOf128Alone
+    PlaceOf64BitsAlone
+    PlaceInModeZeroAlone
+    PlaceInPlainAlone
     StartTooLargeAlone
     StartOf2To36Alone
     StartOf64BitsAlone
@@ -53,6 +61,11 @@ things! {
     ThirteenAndRoomShort
     // What has a sheet.
     LargestDirectory
+    ModeZero
+    ModePlain
+    ModePae
+    PlaceZeroInPae
+    LargestPlace
     LargestStart
     LargestLength
     LargestLengthJoined
@@ -131,6 +144,7 @@ impl Met {
 
     /// What is 12 for numbers of one kind alone.
     fn look_at_numbers(&mut self, given: &Given, cause: Cause) {
+        self.look_at_mode(given, cause);
         let (numbers, [too_large, least, largest]) = match cause {
             Cause::DirectoryTooLarge => (&[given.directory_page][..], OF_DIRECTORY),
             Cause::StartTooLarge => (given.starts, OF_STARTS),
@@ -150,6 +164,22 @@ impl Met {
             Thing::ThirteenFirstTwelveLast,
             is_13_first && (is_last_start || is_last_length),
         );
+    }
+
+    /// What is 12 for mode or place alone.
+    fn look_at_mode(&mut self, given: &Given, cause: Cause) {
+        let Given { mode, place, .. } = *given;
+        let of_mode = cause == Cause::ModeTooLarge;
+        let of_place = cause == Cause::PlaceTooLarge;
+        let without = cause == Cause::PlaceWithoutPae;
+        self.note(Thing::ModeTooLargeAlone, of_mode);
+        self.note(Thing::ModeThreeAlone, of_mode && mode == PAE + 1);
+        self.note(Thing::ModeOf64BitsAlone, of_mode && mode == u64::MAX);
+        self.note(Thing::PlaceTooLargeAlone, of_place);
+        self.note(Thing::PlaceOf128Alone, of_place && place == LAST_PLACE + 1);
+        self.note(Thing::PlaceOf64BitsAlone, of_place && place == u64::MAX);
+        self.note(Thing::PlaceInModeZeroAlone, without && mode == FOUR_LEVEL);
+        self.note(Thing::PlaceInPlainAlone, without && mode == PLAIN);
     }
 
     /// What is 12 for the number of starts and lengths alone.
@@ -196,6 +226,12 @@ impl Met {
     fn look_at_good(&mut self, given: &Given) {
         let largest = NUMBER_LIMIT - 1;
         self.note(Thing::LargestDirectory, given.directory_page == largest);
+        let Given { mode, place, .. } = *given;
+        self.note(Thing::ModeZero, mode == FOUR_LEVEL);
+        self.note(Thing::ModePlain, mode == PLAIN);
+        self.note(Thing::ModePae, mode == PAE);
+        self.note(Thing::PlaceZeroInPae, mode == PAE && place == 0);
+        self.note(Thing::LargestPlace, place == LAST_PLACE);
         self.note(Thing::LargestStart, given.starts.contains(&largest));
         self.note(Thing::LargestLength, given.lengths.contains(&largest));
         self.note(Thing::FirstRunAtZero, given.starts.first() == Some(&0));

@@ -2,8 +2,9 @@
 
 use super::codes::{IMAGE, NOT_CANONICAL, PAGEFILE};
 use super::number::{Fault, Refusal};
+use super::sheet::FOUR_LEVEL;
 use super::slip::Slip;
-use super::walk::{Files, Place, Walk, PAGE_BYTES};
+use super::walk::{Files, Place, Walk, NARROW_LIMIT, PAGE_BYTES};
 
 /// The read buffer is too short.
 const BUFFER_TOO_SHORT: Refusal = 45;
@@ -138,7 +139,12 @@ fn gather(walk: &mut Walk, address: u64, n: u64, slip: Slip) -> Gathered {
     }
     let mut done = 0;
     while done < n {
+        let ran_on = done > 0 && walk.mode() != FOUR_LEVEL;
         let place = match byte_address(address, done, slip) {
+            Some(NARROW_LIMIT..) if ran_on && slip == Slip::ReadStopsAt2To32 => break,
+            Some(byte @ NARROW_LIMIT..) if ran_on && slip == Slip::ReadWrapsAt2To32 => {
+                walk.resolve(byte % NARROW_LIMIT)
+            }
             Some(byte) => walk.resolve(byte),
             None if slip == Slip::ReadStopsAtTop => break,
             None => Err(NOT_CANONICAL),

@@ -1,10 +1,13 @@
 //! The processor-block search in the image, and the process list.
 
 use super::codes::{IMAGE, NOT_CANONICAL, REGION_NEEDED};
-use super::number::{Fault, Refusal};
+use super::number::{Fault, Refusal, OUTSIDE_LIMITS};
+use super::sheet::{FOUR_LEVEL, PAE, PAGEFILE_LENGTH_WRONG, PLAIN};
 use super::slip::Slip;
 use super::walk::{bits, is_canonical, word_at, Files, Place, Walk, PAGE_BYTES};
 
+/// Blocks and lists are not served in this mode.
+pub const MODE_NOT_SERVED: Refusal = 37;
 /// A list address is not a multiple of 8.
 const UNALIGNED_LINK: Refusal = 50;
 /// A back link differs.
@@ -54,16 +57,52 @@ pub fn processor_block(files: Files, from: u64, slip: Slip) -> Block {
         Slip::BlockOfBadSheetTaken => files.without_rest(),
         _ => files,
     };
-    match Walk::start(judged, slip) {
+    let early = slip == Slip::BlockModeBeforePagefileLength;
+    match start(judged, early, slip) {
         Err(fault) => no_block(fault, 0, slip),
-        Ok(walk) => Search {
-            walk,
-            image: files.image,
-            slip,
-            entries: 0,
-            found: None,
+        Ok(walk) => {
+            let past_image = from >= files.image.len() as u64;
+            let served = match slip {
+                Slip::BlockServedInOtherModes => true,
+                Slip::BlockServedInPlain => walk.mode() != PAE,
+                Slip::BlockServedInPae => walk.mode() != PLAIN,
+                Slip::BlockModeAfterPastImage if past_image => true,
+                _ => walk.mode() == FOUR_LEVEL,
+            };
+            if !served {
+                return no_block(mode_refusal(slip).into(), 0, slip);
+            }
+            Search {
+                walk,
+                image: files.image,
+                slip,
+                entries: 0,
+                found: None,
+            }
+            .run(from)
         }
-        .run(from),
+    }
+}
+
+/// The walk over an accepted case; a slip judges the mode before the pagefile's length.
+fn start(files: Files, early: bool, slip: Slip) -> Result<Walk, Fault> {
+    let walk = Walk::start(files, slip);
+    let is_16 = matches!(&walk, Err(fault) if fault.refusal == PAGEFILE_LENGTH_WRONG);
+    if early && is_16 {
+        let mode = Walk::start(files.without_rest(), slip)?.mode();
+        return match mode {
+            FOUR_LEVEL => walk,
+            _ => Err(MODE_NOT_SERVED.into()),
+        };
+    }
+    walk
+}
+
+fn mode_refusal(slip: Slip) -> Refusal {
+    match slip {
+        Slip::OtherModeIs55 => NO_BLOCK,
+        Slip::OtherModeIs12 => OUTSIDE_LIMITS,
+        _ => MODE_NOT_SERVED,
     }
 }
 
@@ -220,10 +259,20 @@ pub fn process_list(files: Files, head: u64, buffer: &mut [u64], slip: Slip) -> 
         Slip::ListOfBadSheetTaken => files.without_rest(),
         _ => files,
     };
-    let walk = match Walk::start(judged, slip) {
+    let walk = match start(judged, slip == Slip::ListModeBeforePagefileLength, slip) {
         Ok(walk) => walk,
         Err(fault) => return hand_over(&[], Err(fault), buffer, slip),
     };
+    let served = match slip {
+        Slip::ListServedInOtherModes | Slip::ListModeAfterFirstWord => true,
+        Slip::ListServedInPlain => walk.mode() != PAE,
+        Slip::ListServedInPae => walk.mode() != PLAIN,
+        Slip::ListModeAfterHead if head % WORD_BYTES != 0 => true,
+        _ => walk.mode() == FOUR_LEVEL,
+    };
+    if !served {
+        return hand_over(&[], Err(mode_refusal(slip).into()), buffer, slip);
+    }
     let mut list = List {
         walk,
         files,
@@ -282,6 +331,9 @@ impl List<'_> {
         }
         let mut node = self.head;
         let mut forward = self.word(node)?;
+        if self.slip == Slip::ListModeAfterFirstWord && self.walk.mode() != FOUR_LEVEL {
+            return Err(MODE_NOT_SERVED);
+        }
         loop {
             if self.slip == Slip::RoomBeforeBack && forward != self.head {
                 self.judge_room()?;

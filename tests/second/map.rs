@@ -1,13 +1,13 @@
 //! Maps: the pages of a range written as extents, and an address looked up in them.
 
 use super::codes::{
-    has_page, is_code, refuses, IMAGE, NOT_CANONICAL, PAGEFILE, PAGE_IN_STORE, UNALIGNED_PROTOTYPE,
-    ZEROS,
+    has_page, is_code, refuses, IMAGE, NOT_CANONICAL, PAGEFILE, PAGE_IN_STORE, STATE_NOT_FOLLOWED,
+    UNALIGNED_PROTOTYPE, ZEROS,
 };
 use super::number::{append, Fault, Numbers, Refusal, NUMBER_LIMIT, OUTSIDE_LIMITS};
-use super::sheet::BYTES_AFTER_LAST_FIELD;
+use super::sheet::{BYTES_AFTER_LAST_FIELD, FOUR_LEVEL};
 use super::slip::Slip;
-use super::walk::{is_canonical, Files, Place, Walk, PAGE_BYTES};
+use super::walk::{is_canonical, Files, Place, Walk, NARROW_LIMIT, PAGE_BYTES};
 
 /// The map range is wrong.
 const RANGE_WRONG: Refusal = 40;
@@ -87,16 +87,40 @@ pub fn map(files: Files, start: u64, pages: u64, buffer: &mut [u8], slip: Slip) 
 
 /// The bytes of the map, whether they fit or not; else the sheet's fault or 40.
 pub fn map_bytes(files: Files, start: u64, pages: u64, slip: Slip) -> Result<Vec<u8>, Fault> {
-    let range = judge_range(start, pages, slip);
     if slip == Slip::RangeBeforeSheet {
-        range?;
+        judge_range(start, pages, slip)?;
     }
     let judged = match slip {
         Slip::MapOfBadSheetTaken => files.without_rest(),
         _ => files,
     };
     let mut walk = Walk::start(judged, slip)?;
-    Ok(layout(&mut walk, start, range?, slip))
+    let pages = match (walk.mode(), slip) {
+        (FOUR_LEVEL, _) | (_, Slip::RangePast2To32Taken) => judge_range(start, pages, slip)?,
+        _ => judge_narrow_range(start, pages, slip)?,
+    };
+    Ok(layout(&mut walk, start, pages, slip))
+}
+
+/// The same in modes 1 and 2, where a range ends at or below 2^32.
+fn judge_narrow_range(start: u64, pages: u64, slip: Slip) -> Result<u64, Refusal> {
+    let end = match slip {
+        Slip::RangeEndIn64Bits => u128::from(start.wrapping_add(pages.wrapping_mul(PAGE_BYTES))),
+        _ => u128::from(start) + u128::from(pages) * u128::from(PAGE_BYTES),
+    };
+    let highest_end = u128::from(match slip {
+        Slip::RangeEndAt2To32Refused => NARROW_LIMIT - 1,
+        Slip::RangeLastPageRefused => NARROW_LIMIT - PAGE_BYTES,
+        _ => NARROW_LIMIT,
+    });
+    if slip == Slip::NarrowRangeOf2To32Is20 && start >= NARROW_LIMIT {
+        return Err(NOT_CANONICAL);
+    }
+    let backwards = end < u128::from(start);
+    if start % PAGE_BYTES != 0 || pages == 0 || end > highest_end || backwards {
+        return Err(RANGE_WRONG);
+    }
+    Ok((end as u64 - start) / PAGE_BYTES)
 }
 
 /// The page count of an allowed range, or 40.
@@ -330,6 +354,9 @@ fn find(bytes: &[u8], address: u64, slip: Slip) -> Result<Found, Fault> {
 }
 
 fn judge_canonical(address: u64, slip: Slip) -> Result<(), Refusal> {
+    if slip == Slip::LookupOf2To32Is20 && address >= NARROW_LIMIT {
+        return Err(NOT_CANONICAL);
+    }
     if !is_canonical(address, slip) && slip != Slip::NotCanonicalTaken {
         return Err(NOT_CANONICAL);
     }
@@ -539,6 +566,10 @@ fn is_listed(code: u64, slip: Slip) -> bool {
         Slip::CodeThirtyTaken if code == u64::from(UNALIGNED_PROTOTYPE) + 1 => true,
         Slip::CodeThirtyOneUnlisted if code == u64::from(PAGE_IN_STORE) => false,
         Slip::CodeThirtyTwoTaken if code == u64::from(PAGE_IN_STORE) + 1 => true,
+        Slip::CodeThirtyThreeTaken if code == u64::from(PAGE_IN_STORE) + 2 => true,
+        Slip::CodeThirtyFourUnlisted if code == u64::from(STATE_NOT_FOLLOWED) => false,
+        Slip::CodeThirtyFiveTaken if code == u64::from(STATE_NOT_FOLLOWED) + 1 => true,
+        Slip::CodeThirtySevenTaken if code == u64::from(STATE_NOT_FOLLOWED) + 3 => true,
         _ => is_code(code),
     }
 }

@@ -10,7 +10,7 @@ pub type Refusal = u32;
 pub const ENDS_EARLY: Refusal = 10;
 /// A number has over 6 groups.
 const TOO_LONG: Refusal = 11;
-/// The edition is not 1, or a number is outside its limits.
+/// The edition is not known, or a number is outside its limits.
 pub const OUTSIDE_LIMITS: Refusal = 12;
 /// A number is not in its shortest form.
 const NOT_SHORTEST: Refusal = 18;
@@ -64,6 +64,14 @@ impl<'a> Numbers<'a> {
         judge_limit(value, self.slip)
             .map_err(|refusal| fault(refusal, start..self.at, self.slip))?;
         Ok(value)
+    }
+
+    /// For slips: the next number with a fault of its own.
+    pub fn read_with(&mut self, slip: Slip) -> Result<u64, Fault> {
+        let usual = std::mem::replace(&mut self.slip, slip);
+        let value = self.read();
+        self.slip = usual;
+        value
     }
 
     /// The next number whatever its size, or 10, 11 or 18.

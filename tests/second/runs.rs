@@ -16,6 +16,9 @@ pub const NUMBERS_A_RUN: usize = 3;
 pub struct CaseRead {
     pub number: u64,
     pub directory: u64,
+    pub mode: u64,
+    /// The directory's place in its page, in units of 32 bytes.
+    pub place: u64,
     pub length: u64,
 }
 
@@ -62,11 +65,26 @@ pub fn case_runs(
         return refused(refusal.into(), Some(&case), slip);
     }
     write_runs(&case, buffer, slip);
+    told(&case, slip)
+}
+
+fn told(case: &Case, slip: Slip) -> CaseRead {
     CaseRead {
         number: 0,
         directory: match slip {
             Slip::DirectoryDropped => 0,
             _ => case.directory_page,
+        },
+        mode: match slip {
+            Slip::ModeDropped => 0,
+            Slip::ModeAndPlaceSwapped => case.place,
+            _ => case.mode,
+        },
+        place: match slip {
+            Slip::PlaceDropped => 0,
+            Slip::PlaceInBytes => 32 * case.place,
+            Slip::ModeAndPlaceSwapped => case.mode,
+            _ => case.place,
         },
         length: match slip {
             Slip::RunLengthInNumbers => NUMBERS_A_RUN * case.runs.len(),
@@ -84,9 +102,23 @@ fn refused(fault: Fault, case: Option<&Case>, slip: Slip) -> CaseRead {
             (_, Slip::CasePositionAsDirectory) => fault.position,
             _ => 0,
         },
+        mode: match (case, slip) {
+            (Some(case), Slip::ModeOnRefusal) => case.mode,
+            _ => 0,
+        },
+        place: match (case, slip) {
+            (Some(case), Slip::PlaceOnRefusal) => case.place,
+            (_, Slip::CasePositionAsPlace) => fault.position,
+            _ => 0,
+        },
         length: match (case, slip) {
             (Some(case), Slip::RunLengthOnRefusal) => case.runs.len() as u64,
-            (_, Slip::CasePositionDropped | Slip::CasePositionAsDirectory) => 0,
+            (
+                _,
+                Slip::CasePositionDropped
+                | Slip::CasePositionAsDirectory
+                | Slip::CasePositionAsPlace,
+            ) => 0,
             _ => fault.position,
         },
     }

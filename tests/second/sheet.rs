@@ -17,6 +17,14 @@ pub const PAGE_BYTES: u64 = 4096;
 /// The most runs that a sheet has.
 pub const MOST_RUNS: u64 = 1000;
 
+/// The modes of an address space: 64-bit, and the two 32-bit profiles of edition 2.
+pub const FOUR_LEVEL: u64 = 0;
+pub const PLAIN: u64 = 1;
+pub const PAE: u64 = 2;
+
+/// The last place of a directory in its page, in units of 32 bytes.
+pub const LAST_PLACE: u64 = 127;
+
 /// Frames that lie in the image one after another.
 #[derive(Clone, Copy, PartialEq)]
 pub struct Run {
@@ -35,6 +43,9 @@ impl Run {
 #[derive(Default)]
 pub struct Case {
     pub directory_page: u64,
+    pub mode: u64,
+    /// Where the top table begins in the directory page, in units of 32 bytes.
+    pub place: u64,
     pub runs: Vec<Run>,
 }
 
@@ -86,6 +97,10 @@ fn read_fields(numbers: &mut Numbers, case: &mut Case, slip: Slip) -> Result<(),
     if slip != Slip::EditionJudgedAfterDirectory {
         judge_edition(edition, slip)?;
     }
+    let has_mode = edition >= 2 && slip != Slip::EditionTwoReadAsOne;
+    if has_mode && slip == Slip::ModeBeforeDirectory {
+        read_mode_and_place(numbers, case, slip)?;
+    }
     case.directory_page = match slip {
         Slip::DirectoryLimitDropped => numbers.read_unlimited()?,
         _ => numbers.read()?,
@@ -93,10 +108,16 @@ fn read_fields(numbers: &mut Numbers, case: &mut Case, slip: Slip) -> Result<(),
     if slip == Slip::EditionJudgedAfterDirectory {
         judge_edition(edition, slip)?;
     }
+    if has_mode && slip != Slip::ModeBeforeDirectory {
+        read_mode_and_place(numbers, case, slip)?;
+    }
     let run_count = match slip {
         Slip::CountSecondByteDropped => numbers.read()? % 128,
         _ => numbers.read()?,
     };
+    if slip == Slip::PlaceJudgedAfterCount {
+        judge_place(case, slip)?;
+    }
     if slip != Slip::CountJudgedAfterRuns {
         judge_run_count(run_count, slip)?;
     }
@@ -109,14 +130,111 @@ fn read_fields(numbers: &mut Numbers, case: &mut Case, slip: Slip) -> Result<(),
 
 fn judge_edition(edition: u64, slip: Slip) -> Result<(), Refusal> {
     let known = match slip {
-        Slip::EditionZeroTaken => edition <= 1,
-        Slip::EditionTwoTaken => edition == 1 || edition == 2,
-        _ => edition == 1,
+        Slip::EditionZeroTaken => edition <= 2,
+        Slip::EditionTwoRefused => edition == 1,
+        Slip::EditionThreeTaken => (1..=3).contains(&edition),
+        _ => edition == 1 || edition == 2,
     };
     if !known {
         return Err(OUTSIDE_LIMITS);
     }
     Ok(())
+}
+
+/// The two fields that edition 2 has more than edition 1.
+#[derive(Clone, Copy)]
+enum Added {
+    Mode,
+    Place,
+}
+
+/// Each of them is judged as soon as it is read.
+fn read_mode_and_place(numbers: &mut Numbers, case: &mut Case, slip: Slip) -> Result<(), Fault> {
+    if slip == Slip::PlaceBeforeMode {
+        case.place = read_added(numbers, Added::Place, slip)?;
+    }
+    let at_mode = numbers.position();
+    case.mode = read_added(numbers, Added::Mode, slip)?;
+    let mode = judge_mode(case.mode, slip).map_err(|refusal| match slip {
+        Slip::PositionFor12OfMode => Fault {
+            refusal,
+            position: at_mode,
+        },
+        _ => refusal.into(),
+    });
+    if slip != Slip::ModeJudgedAfterPlace {
+        mode?;
+    }
+    let at_place = numbers.position();
+    if slip != Slip::PlaceBeforeMode {
+        case.place = read_added(numbers, Added::Place, slip)?;
+    }
+    mode?;
+    match judge_place(case, slip) {
+        Err(_) if slip == Slip::PlaceJudgedAfterCount => Ok(()),
+        Err(refusal) if slip == Slip::PositionFor12OfPlace => Err(Fault {
+            refusal,
+            position: at_place,
+        }),
+        verdict => Ok(verdict?),
+    }
+}
+
+fn read_added(numbers: &mut Numbers, field: Added, slip: Slip) -> Result<u64, Fault> {
+    use Added::{Mode, Place};
+    let ended = numbers.at_end();
+    let read = match (field, slip) {
+        (Mode, Slip::ModeInAnyForm) | (Place, Slip::PlaceInAnyForm) => {
+            numbers.read_with(Slip::LastGroupZeroTaken)
+        }
+        _ => numbers.read(),
+    };
+    read.map_err(|fault| match (field, slip) {
+        (Mode, Slip::ModeInOneByte) | (Place, Slip::PlaceInOneByte) if !ended => {
+            OUTSIDE_LIMITS.into()
+        }
+        (Mode, Slip::MissingModeIs12) | (Place, Slip::MissingPlaceIs12) if ended => {
+            OUTSIDE_LIMITS.into()
+        }
+        (Mode, Slip::ModePositionDropped) | (Place, Slip::PlacePositionDropped) => {
+            fault.refusal.into()
+        }
+        // The mode before it has one byte.
+        (Place, Slip::PlacePositionOfMode) => Fault {
+            position: fault.position.saturating_sub(1),
+            ..fault
+        },
+        _ => fault,
+    })
+}
+
+fn judge_mode(mode: u64, slip: Slip) -> Result<(), Refusal> {
+    let allowed = match slip {
+        Slip::ModeZeroTaken => FOUR_LEVEL..=PAE,
+        Slip::ModeThreeTaken => PLAIN..=PAE + 1,
+        _ => PLAIN..=PAE,
+    };
+    match allowed.contains(&mode) {
+        true => Ok(()),
+        false => Err(OUTSIDE_LIMITS),
+    }
+}
+
+/// The directory fills its page unless the mode is PAE.
+fn judge_place(case: &Case, slip: Slip) -> Result<(), Refusal> {
+    let last = match (case.mode, slip) {
+        (PAE.., Slip::PlaceOf128Taken) => LAST_PLACE + 1,
+        (PAE.., Slip::PlaceOf127Refused) => LAST_PLACE - 1,
+        (PAE.., Slip::PlaceRefusedInPae) => 0,
+        (PAE.., _) => LAST_PLACE,
+        (_, Slip::PlaceInPlainTaken) => LAST_PLACE,
+        _ => 0,
+    };
+    match (case.place <= last, slip) {
+        (true, _) => Ok(()),
+        (false, Slip::PlaceIs13) => Err(RUN_WRONG),
+        (false, _) => Err(OUTSIDE_LIMITS),
+    }
 }
 
 fn judge_run_count(run_count: u64, slip: Slip) -> Result<(), Refusal> {

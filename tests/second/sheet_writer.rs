@@ -1,22 +1,28 @@
-//! A sheet written from its directory page and the starts and lengths of its runs.
+//! A sheet written from its directory page, mode, place, and the starts and lengths of its runs.
 
 use super::lists::Written;
 use super::number::{append, Refusal, NUMBER_LIMIT, OUTSIDE_LIMITS};
-use super::sheet::{Run, RUN_WRONG};
+use super::sheet::{Run, FOUR_LEVEL, LAST_PLACE, PAE, PLAIN, RUN_WRONG};
 use super::slip::Slip;
 
 /// The sheet buffer is too short.
 const BUFFER_TOO_SHORT: Refusal = 17;
 
+/// That of mode 0.
 const EDITION: u64 = 1;
+/// That with a mode and a place.
+const EDITION_WITH_MODE: u64 = 2;
 
 /// The most runs that can be given.
 pub const MOST_GIVEN: usize = 1000;
 
-/// What a sheet is written of; each number counts pages.
+/// What a sheet is written of; directory page, starts and lengths count pages.
 #[derive(Clone, Copy)]
 pub struct Given<'a> {
     pub directory_page: u64,
+    pub mode: u64,
+    /// The directory's place in its page, in units of 32 bytes.
+    pub place: u64,
     pub starts: &'a [u64],
     pub lengths: &'a [u64],
 }
@@ -43,6 +49,12 @@ macro_rules! causes {
 causes! {
     /// The directory page is 2^36 or more.
     DirectoryTooLarge: OUTSIDE_LIMITS
+    /// The mode is none of the three.
+    ModeTooLarge: OUTSIDE_LIMITS
+    /// The place is past the page's end.
+    PlaceTooLarge: OUTSIDE_LIMITS
+    /// A place is given, and the mode is not PAE.
+    PlaceWithoutPae: OUTSIDE_LIMITS
     /// A start is 2^36 or more.
     StartTooLarge: OUTSIDE_LIMITS
     /// A length is 2^36 or more.
@@ -69,6 +81,8 @@ impl Cause {
             (Cause::CountsDiffer, Slip::CountsDifferIs13) => RUN_WRONG,
             (Cause::LengthZero, Slip::LengthZeroIs12) => OUTSIDE_LIMITS,
             (Cause::WholeSpace, Slip::WholeSpaceIs12) => OUTSIDE_LIMITS,
+            (Cause::ModeTooLarge, Slip::GivenModeIs13) => RUN_WRONG,
+            (Cause::PlaceTooLarge | Cause::PlaceWithoutPae, Slip::GivenPlaceIs13) => RUN_WRONG,
             _ => self.usual_refusal(),
         }
     }
@@ -78,6 +92,9 @@ impl Cause {
         let mut pairs = runs.iter().zip(runs.iter().skip(1));
         match self {
             Cause::DirectoryTooLarge => is_directory_too_large(given.directory_page, slip),
+            Cause::ModeTooLarge => is_mode_too_large(given.mode, slip),
+            Cause::PlaceTooLarge => is_place_too_large(given.place, slip),
+            Cause::PlaceWithoutPae => is_place_without_pae(given, slip),
             Cause::StartTooLarge => is_start_too_large(given.starts, slip),
             Cause::LengthTooLarge => is_length_too_large(given.lengths, slip),
             Cause::CountsDiffer => do_counts_differ(given, slip),
@@ -121,6 +138,33 @@ fn is_directory_too_large(number: u64, slip: Slip) -> bool {
         Slip::LargestDirectoryRefused => number >= NUMBER_LIMIT - 1,
         _ => number >= NUMBER_LIMIT,
     }
+}
+
+fn is_mode_too_large(mode: u64, slip: Slip) -> bool {
+    match slip {
+        Slip::GivenModeUnlimited => false,
+        Slip::GivenModeThreeTaken => mode > PAE + 1,
+        Slip::GivenPaeRefused => mode >= PAE,
+        _ => mode > PAE,
+    }
+}
+
+fn is_place_too_large(place: u64, slip: Slip) -> bool {
+    match slip {
+        Slip::GivenPlaceUnlimited => false,
+        Slip::GivenPlaceOf128Taken => place > LAST_PLACE + 1,
+        Slip::GivenPlaceOf127Refused => place >= LAST_PLACE,
+        _ => place > LAST_PLACE,
+    }
+}
+
+fn is_place_without_pae(given: &Given, slip: Slip) -> bool {
+    let without = match slip {
+        Slip::GivenPlaceInPlainTaken => given.mode == FOUR_LEVEL,
+        Slip::GivenPlaceInModeZeroTaken => given.mode == PLAIN,
+        _ => given.mode == FOUR_LEVEL || given.mode == PLAIN,
+    };
+    without && given.place != 0
 }
 
 fn is_start_too_large(starts: &[u64], slip: Slip) -> bool {
@@ -267,7 +311,7 @@ fn joined_pages(open: &Run, run: &Run, slip: Slip) -> u64 {
     }
 }
 
-/// Edition, directory page, number of joined runs, then the gap and length of each; of any numbers, right or wrong.
+/// The header, number of joined runs, then the gap and length of each; of any numbers, right or wrong.
 pub fn sheet_bytes(given: &Given, slip: Slip) -> Vec<u8> {
     let runs = joined(&runs_of(given, slip), slip);
     let count = match slip {
@@ -276,12 +320,11 @@ pub fn sheet_bytes(given: &Given, slip: Slip) -> Vec<u8> {
         Slip::CountOfLastByte => runs.len() % 128,
         _ => runs.len(),
     };
-    let header = match slip {
-        Slip::CountBeforeDirectory => vec![EDITION, count as u64, given.directory_page],
-        Slip::EditionTwoWritten => vec![EDITION + 1, given.directory_page, count as u64],
-        Slip::EditionLeftOut => vec![given.directory_page, count as u64],
-        _ => vec![EDITION, given.directory_page, count as u64],
-    };
+    let mut header = header(given, slip);
+    match slip {
+        Slip::CountBeforeDirectory => header.insert(1, count as u64),
+        _ => header.push(count as u64),
+    }
     let written = match slip {
         Slip::LastRunLeftOut => &runs[..runs.len().saturating_sub(1)],
         _ => &runs[..],
@@ -291,6 +334,33 @@ pub fn sheet_bytes(given: &Given, slip: Slip) -> Vec<u8> {
         append_number(number, &mut bytes, slip);
     }
     bytes
+}
+
+/// Edition 1 and the directory page for mode 0; else edition 2, the directory page, mode and place.
+fn header(given: &Given, slip: Slip) -> Vec<u64> {
+    let Given {
+        directory_page,
+        mode,
+        place,
+        ..
+    } = *given;
+    let has_mode = mode != FOUR_LEVEL || slip == Slip::EditionTwoForModeZero;
+    match slip {
+        Slip::EditionLeftOut if has_mode => vec![directory_page, mode, place],
+        Slip::EditionLeftOut => vec![directory_page],
+        Slip::EditionTwoWritten if !has_mode => vec![EDITION_WITH_MODE, directory_page],
+        _ if !has_mode => vec![EDITION, directory_page],
+        Slip::EditionOneForModes => vec![EDITION, directory_page, mode, place],
+        Slip::ModeLeftOut => vec![EDITION_WITH_MODE, directory_page, place],
+        Slip::PlaceLeftOut => vec![EDITION_WITH_MODE, directory_page, mode],
+        Slip::ModeWrittenFirst => vec![EDITION_WITH_MODE, mode, place, directory_page],
+        Slip::PlaceWrittenFirst => vec![EDITION_WITH_MODE, directory_page, place, mode],
+        Slip::PlaceWrittenInBytes => {
+            let bytes = place.wrapping_mul(32);
+            vec![EDITION_WITH_MODE, directory_page, mode, bytes]
+        }
+        _ => vec![EDITION_WITH_MODE, directory_page, mode, place],
+    }
 }
 
 /// The gap from the end of the run before, the first from 0, and the length of each run.
@@ -347,6 +417,14 @@ fn is_room_short(given: &Given, bytes: &[u8], room: usize, slip: Slip) -> bool {
         Slip::SheetRoomShortByOneTaken => bytes.len() > room + 1,
         Slip::SheetRoomOfRunsApart => sheet_bytes(given, Slip::TouchingWrittenApart).len() > room,
         Slip::SheetRoomForLongest => 9 + 12 * given.starts.len() > room,
+        Slip::SheetRoomOfEditionOne => {
+            let mode_zero = Given {
+                mode: FOUR_LEVEL,
+                place: 0,
+                ..*given
+            };
+            sheet_bytes(&mode_zero, slip).len() > room
+        }
         _ => bytes.len() > room,
     }
 }

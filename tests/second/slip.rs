@@ -29,9 +29,33 @@ slips! {
         LimitOneTooLow
         LimitDropped
         EditionZeroTaken
-        EditionTwoTaken
+        EditionTwoRefused
+        EditionTwoReadAsOne
+        EditionThreeTaken
         EditionJudgedAfterDirectory
         DirectoryLimitDropped
+        ModeZeroTaken
+        ModeThreeTaken
+        ModeJudgedAfterPlace
+        ModeBeforeDirectory
+        PlaceBeforeMode
+        PlaceOf128Taken
+        PlaceOf127Refused
+        PlaceInPlainTaken
+        PlaceRefusedInPae
+        PlaceJudgedAfterCount
+        PlaceIs13
+        ModeInAnyForm
+        PlaceInAnyForm
+        ModeInOneByte
+        PlaceInOneByte
+        MissingModeIs12
+        MissingPlaceIs12
+        ModePositionDropped
+        PlacePositionDropped
+        PlacePositionOfMode
+        PositionFor12OfMode
+        PositionFor12OfPlace
         ZeroRunsTaken
         OldRunLimitKept
         ThousandRunsRefused
@@ -88,6 +112,16 @@ slips! {
         LastLengthUnlimited
         LengthOf2To36Taken
         LargestLengthRefused
+        GivenModeUnlimited
+        GivenModeThreeTaken
+        GivenPaeRefused
+        GivenPlaceUnlimited
+        GivenPlaceOf128Taken
+        GivenPlaceOf127Refused
+        GivenPlaceInPlainTaken
+        GivenPlaceInModeZeroTaken
+        GivenModeIs13
+        GivenPlaceIs13
         CountsDifferTaken
         MoreStartsTaken
         MoreLengthsTaken
@@ -127,6 +161,13 @@ slips! {
         CountOfLastByte
         CountBeforeDirectory
         EditionTwoWritten
+        EditionTwoForModeZero
+        EditionOneForModes
+        ModeLeftOut
+        PlaceLeftOut
+        ModeWrittenFirst
+        PlaceWrittenFirst
+        PlaceWrittenInBytes
         EditionLeftOut
         LastRunLeftOut
         StartWrittenForGap
@@ -141,6 +182,7 @@ slips! {
         SheetRoomShortByOneTaken
         SheetRoomOfRunsApart
         SheetRoomForLongest
+        SheetRoomOfEditionOne
         SheetWrittenBeforeJudging
         SheetWrittenBeforeRoom
         SheetLengthOnRefusal
@@ -149,6 +191,8 @@ slips! {
         ReadBackWithoutGaps
         ReadBackLimitOneTooLow
         ReadBackTopRefused
+        ReadBackInModeZero
+        ReadBackAtPlaceZero
     ;
 
     /// The faults in resolving an address, handing out its page and reading bytes.
@@ -277,6 +321,89 @@ slips! {
         ReadPositionDropped
     ;
 
+    /// The faults in the walks of modes 1 and 2, and in the calls over them.
+    NARROW_SLIPS:
+        PlainEntryReadAs8Bytes
+        PlainEntriesApartBy8
+        PlainEntryOfHighHalf
+        TopPlaceForgotten
+        TopPlaceTimes16
+        TopPlaceTimes64
+        TopPlaceInEntries
+        TopPlaceBelowTop
+        NarrowIndexOfOtherLevel
+        NarrowIndexLosesTopBit
+        NarrowIndexLosesLowBit
+        NarrowUpperTransitionFollowed
+        NarrowUpperInvalidIs22
+        NarrowUpperInvalidIs34
+        MiddleInvalidIs22
+        FourMegabyteBitIgnored
+        FourMegabyteLosesAddressBits
+        FourMegabyteTakenAs2MiB
+        FourMegabyteReservedTaken
+        FourMegabyteReservedIs23
+        FourMegabyteReservedAfterRun
+        FourMegabyteReservedFromBit12
+        FourMegabyteReservedFromBit14
+        FourMegabyteReservedToBit20
+        FourMegabyteHighBaseBits
+        TwoMegabyteBitIgnored
+        TwoMegabyteLosesAddressBits
+        TwoMegabyteTakenAs4MiB
+        TwoMegabyteReservedJudged
+        TwoMegabyteTakesLowBaseBits
+        TopEntryLarge
+        TopEntryReservedJudged
+        TopEntryWideTaken
+        MiddleEntryWideTaken
+        LastEntryWideTaken
+        NarrowWideAfterRun
+        NarrowWideBeforeValid
+        NarrowFrameIn20Bits
+        NarrowLargeAtLastLevel
+        NarrowLargeRunAtBase
+        StateNotFollowedIs22
+        StateNotFollowedIs21
+        ZeroEntryIs22
+        ZeroEntryIs3
+        NarrowStatesOfModeZero
+        NarrowTransitionNotFollowed
+        NarrowTransitionBeforePrototype
+        NarrowTransitionWideRefused
+        NarrowTransitionTakesHighBits
+        AddressOf2To32Taken
+        AddressFoldedAt2To32
+        HighAddressFolded
+        AddressOf2To31Refused
+        LastAddressRefused
+        NarrowCanonicalIs21
+        ReadWrapsAt2To32
+        ReadStopsAt2To32
+        NarrowCountTakesMissingTable
+        NarrowMissingTableIs21
+        NarrowCountSkipsTop
+        RangeEndAt2To32Refused
+        RangePast2To32Taken
+        RangeEndIn64Bits
+        RangeLastPageRefused
+        NarrowRangeOf2To32Is20
+        BlockServedInOtherModes
+        BlockServedInPlain
+        BlockServedInPae
+        ListServedInOtherModes
+        ListServedInPlain
+        ListServedInPae
+        BlockModeBeforePagefileLength
+        ListModeBeforePagefileLength
+        BlockModeAfterPastImage
+        ListModeAfterHead
+        ListModeAfterFirstWord
+        OtherModeIs55
+        OtherModeIs12
+        LookupOf2To32Is20
+    ;
+
     /// The faults in writing maps and in looking addresses up in them.
     MAP_SLIPS:
         MapOfBadSheetTaken
@@ -353,6 +480,10 @@ slips! {
         CodeThirtyTaken
         CodeThirtyOneUnlisted
         CodeThirtyTwoTaken
+        CodeThirtyThreeTaken
+        CodeThirtyFourUnlisted
+        CodeThirtyFiveTaken
+        CodeThirtySevenTaken
         CodeJudgedWithExtent
         ExtentLengthZeroTaken
         LengthZeroJudgedBeforePage
@@ -535,6 +666,13 @@ slips! {
         RunsNotInOrder
         DirectoryDropped
         DirectoryOnRefusal
+        ModeDropped
+        ModeOnRefusal
+        PlaceDropped
+        PlaceOnRefusal
+        PlaceInBytes
+        ModeAndPlaceSwapped
+        CasePositionAsPlace
         RunLengthInNumbers
         RunLengthOnRefusal
         RunsWrittenBeforeRefusal

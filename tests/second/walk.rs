@@ -1,17 +1,22 @@
 //! One address: the walk through four levels of tables, and the states of an entry.
 
+#[path = "narrow.rs"]
+mod narrow;
+
 use super::codes::{
     BACKED_BY_FILE, FOURTH_PROTOTYPE, FRAME_IN_NO_RUN, FRAME_TOO_WIDE, IMAGE, NOT_CANONICAL,
     OTHER_PAGEFILE, PAGEFILE, PAGE_IN_STORE, PAST_PAGEFILE, REGION_NEEDED, TABLE_NOT_VALID,
     UNALIGNED_PROTOTYPE, ZEROS,
 };
 use super::number::{Fault, Refusal};
-use super::sheet::{check_sheet, Case};
+use super::sheet::{check_sheet, Case, FOUR_LEVEL, PLAIN};
 use super::slip::Slip;
 
 pub const PAGE_BYTES: u64 = 4096;
 const ENTRY_BYTES: u64 = 8;
 const LAST_LEVEL: u32 = 4;
+/// Every address of modes 1 and 2 is below.
+pub const NARROW_LIMIT: u64 = 1 << 32;
 
 const VALID: u32 = 0;
 const LARGE: u32 = 7;
@@ -124,6 +129,10 @@ impl<'a> Walk<'a> {
         self.directory_page = frame;
     }
 
+    pub fn mode(&self) -> u64 {
+        self.case.mode
+    }
+
     /// The place of the addressed byte.
     pub fn resolve(&mut self, address: u64) -> Result<Place, Refusal> {
         self.consulted.clear();
@@ -160,6 +169,11 @@ impl<'a> Walk<'a> {
     /// The place of a byte whose address was met so many prototype entries deep.
     fn resolve_deeper(&mut self, address: u64, prototypes: u32) -> Result<Place, Refusal> {
         self.prototypes = prototypes;
+        match self.case.mode {
+            FOUR_LEVEL => {}
+            PLAIN => return self.resolve_plain(address),
+            _ => return self.resolve_pae(address),
+        }
         if !is_canonical(address, self.slip) {
             return Err(NOT_CANONICAL);
         }
