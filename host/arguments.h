@@ -13,6 +13,9 @@ enum {
     HELP = 16,
     VERSION = 32,
     PAGES = 64,
+    PLAIN = 128,
+    PAE = 256,
+    CR3 = 512,
     OPTIONS_OF_EVERY_VERB = JSON | HELP | VERSION
 };
 
@@ -30,7 +33,7 @@ struct arguments {
     char **operands;
     int operand_count;
     int options;
-    const char *output;
+    const char *output, *cr3;    /* NULL without -o and --cr3 */
 };
 
 /* Moves the operands to the front of `words`. Ends the program with FAILED at an option that there is not. */

@@ -1,5 +1,6 @@
 #include "case_verb.h"
 
+#include "address_space.h"
 #include "answer_numbers.h"
 #include "asked_length.h"
 #include "case_files.h"
@@ -46,7 +47,7 @@ int case_verb(const struct command *command)
     add_faulty_position(&faulty);
     if (accepted) {
         struct run last = run_at(numbers, read.length - 1);
-        add_value("directory_page", "directory page", read.directory);
+        add_address_space((struct address_space){read.mode, read.directory, read.place});
         add_count("run_count", read.length, "run");
         add_count("pages", last.image_page + last.pages, "page");
     }

@@ -9,7 +9,7 @@ _glintloom() {
     if [[ $before == -o ]]; then
         words=
     elif [[ $word == -* ]]; then
-        words=$(sed -n 's/^  \(-[a-z-]*\) .*/\1/p' <<<"$help")
+        words=$(sed -n 's/^  \(-[a-z0-9-]*\) .*/\1/p' <<<"$help")
     elif [[ -z $verb ]]; then
         words=$verbs
     elif [[ $verb == explain ]]; then

@@ -28,10 +28,11 @@ static const char *const explanations[] = {
         "wrong place. Its first byte is told and marked: see what number is meant to stand there, and count the fields before "
         "it.",
     [GLINT_OUT_OF_LIMITS] =
-        "The edition is not 1, or a number is outside its limits: each is below 2^36, a sheet has 1 to 1,000 runs, and a map 1 to "
-        "1,048,576 pages in one half of the addresses. A file that is no sheet or no map is mostly refused so: see first that "
-        "the files stand in the order SHEET IMAGE PAGEFILE. The verb sheet refuses so a number of 2^36 pages or more, and no "
-        "ranges or more than 1,000 of them.",
+        "The edition is not 1 or, of the sheet of a 32-bit machine, 2, or a number is outside its limits: each is below 2^36, a "
+        "mode is 1 or 2, a place at most 127 and in mode 1 zero, a sheet has 1 to 1,000 runs, and a map 1 to 1,048,576 pages "
+        "in one half of the addresses. A file that is no sheet or no map is mostly refused so: see first that the files stand "
+        "in the order SHEET IMAGE PAGEFILE. The verb sheet refuses so a number of 2^36 pages or more, and no ranges or more "
+        "than 1,000 of them.",
     [GLINT_BAD_RUN] =
         "A run of the sheet has no pages, has a gap of 0 although it is not the first, or ends past page 2^36; a gap counts "
         "from the end of the run before, that of the first run from page 0. The verb sheet refuses so a range that has no "
@@ -58,13 +59,15 @@ static const char *const explanations[] = {
         "fields before it.",
 
     [GLINT_NOT_CANONICAL] =
-        "Bits 47 to 63 of the address are not all equal, so the processor takes it for no address; or a read goes on past the "
-        "top. Look for a lost or an added digit: addresses of programs are below 0x0000800000000000, those of the kernel are "
-        "0xFFFF800000000000 or more.",
+        "Bits 47 to 63 of the address are not all equal, so the processor takes it for no address, or a read goes on past the "
+        "top; the address space of a 32-bit machine ends at 2^32, and addresses from there on are refused so. Look for a lost "
+        "or an added digit: addresses of programs are below 0x0000800000000000, those of the kernel are 0xFFFF800000000000 or "
+        "more, and those of a 32-bit machine have at most 8 digits. The verb case shows of which profile the sheet is.",
     [GLINT_UPPER_ENTRY_NOT_VALID] =
-        "The first or second level entry of the address is not valid, so nothing is mapped in its 512 GiB or 1 GiB. If nearly "
-        "every address is refused so, the directory page is not the right one: each process has its own. The manual page "
-        "tells under CASE SHEET how one is found.",
+        "The first or second level entry of the address is not valid, so nothing is mapped in its 512 GiB or 1 GiB, or on a "
+        "32-bit machine in its 4 MiB or, with PAE, its 1 GiB or 2 MiB. If nearly every address is refused so, the directory "
+        "page or the profile is not the right one: each process has a directory page of its own. The manual page tells under "
+        "CASE SHEET how one is found.",
     [GLINT_REGION_NEEDED] =
         "The tables leave the page to the region record (VAD) of its range: the entry is 0 or says so, or the table that would "
         "have it is not there. Nothing else tells where the page is, or whether there is one, so no byte is shown. Look for "
@@ -75,9 +78,10 @@ static const char *const explanations[] = {
         "table on the way. The image does not have it, or the runs or the directory page are wrong; with 0 entries read it is "
         "the directory page itself. Compare the runs with those that the imaging tool reported.",
     [GLINT_FRAME_TOO_WIDE] =
-        "A valid entry has one of bits 48 to 51 set, so its frame number is wider than 36 bits. The entry is damaged, or what "
-        "was read as a table is none, as behind a wrong directory page or in tables that changed while the image was made. "
-        "Check the directory page; other addresses may still be answered.",
+        "A valid entry has one of bits 48 to 51 set, so its frame number is wider than 36 bits, or one of bits 13 to 21 in the "
+        "entry of a 4 MiB page, whose frame number is then wider than 20. The entry is damaged, or what was read as a table is "
+        "none, as behind a wrong directory page or in tables that changed while the image was made. Check the directory page "
+        "and the profile; other addresses may still be answered.",
     [GLINT_FILE_BACKED] =
         "The prototype entry says that the page comes from a file of the machine's disk, such as a program or a mapped file, "
         "and is not in memory. Neither the image nor the pagefile has it. Take it from that file, where that can be had.",
@@ -99,15 +103,25 @@ static const char *const explanations[] = {
         "pagefile has it as a page: what the pagefile holds at the place that the entry seems to name belongs to another page, "
         "or to none, and is not shown. Take it from the store with a tool that unpacks it; a map made by a reader without this "
         "number may name such a false place, and is to be made again.",
+    [GLINT_STATE_NOT_FOLLOWED] =
+        "The last-level entry of the address is neither valid nor in transition, and of the tables of 32-bit machines no other "
+        "state is followed: the page may be in a pagefile, behind a prototype entry, one of zeros, or none. No byte is shown "
+        "for it, neither from the pagefile nor zeros. Look at the entry with another tool, which must know the version of "
+        "Windows; if most addresses are refused so, check the directory page, and whether the machine ran with PAE.",
+    [GLINT_MODE_NOT_SERVED] =
+        "The sheet is that of a 32-bit machine, and processor blocks and process lists are looked for in the layout of 64-bit "
+        "Windows alone. The case itself is sound: resolve, page, read, time, map and case answer for it, and pool finds the "
+        "pool headers of its image, those of processes among them.",
 
     [GLINT_BAD_MAP_RANGE] =
-        "The range does not start at a multiple of 4,096, has no page or more than 1,048,576, or is not in one half of the "
-        "addresses. Round the start down to its page, and make several maps of a longer range.",
+        "The range does not start at a multiple of 4,096, has no page or more than 1,048,576, is not in one half of the "
+        "addresses or, on a 32-bit machine, ends above 2^32. Round the start down to its page, and make several maps of a "
+        "longer range.",
     [GLINT_OUTSIDE_MAP] =
         "The map is sound, but its range does not have the address. Ask resolve, or make a map of a range that has it.",
     [GLINT_BAD_EXTENT] =
-        "An extent of the map breaks the layout: a code other than 1, 2, 3, 21 to 29 and 31, a length of 0, pages past 2^36 of "
-        "the file, an extent that belongs to the one before, or lengths that sum to more than the page count. The map is "
+        "An extent of the map breaks the layout: a code other than 1, 2, 3, 21 to 29, 31 and 34, a length of 0, pages past "
+        "2^36 of the file, an extent that belongs to the one before, or lengths that sum to more than the page count. The map is "
         "damaged, or a later reader wrote it that has more codes. Make it again with map.",
     [GLINT_MAP_BUFFER_SHORT] =
         "The map is longer than the buffer that was lent for it, and nothing was written. This program lends enough for every "

@@ -69,13 +69,18 @@ static void parse_operands(struct command *command, char **operands, int count)
 static struct command judge(const struct verb *verb, const struct arguments *arguments)
 {
     struct command command = {.output = arguments->output,
+                              .cr3 = arguments->cr3,
                               .all = (arguments->options & ALL) != 0,
-                              .in_pages = (arguments->options & PAGES) != 0};
+                              .in_pages = (arguments->options & PAGES) != 0,
+                              .plain = (arguments->options & PLAIN) != 0,
+                              .pae = (arguments->options & PAE) != 0};
     int files = name_files(verb, arguments, command.files);
     int numbers = arguments->operand_count - files;
-    if (numbers < verb->fewest_numbers || (verb->most_numbers >= 0 && numbers > verb->most_numbers))
-        fail("%s: too %s operands; 'glintloom help %s' lists them", verb->name,
-             numbers < verb->fewest_numbers ? "few" : "many", verb->name);
+    /* --cr3 stands in place of an operand. */
+    int fewest = verb->fewest_numbers - (command.cr3 != NULL);
+    if (numbers < fewest || (verb->most_numbers >= 0 && numbers > verb->most_numbers))
+        fail("%s: too %s operands; 'glintloom help %s' lists them", verb->name, numbers < fewest ? "few" : "many",
+             verb->name);
     if (takes_addresses(verb) && command.output != NULL && numbers != 1)
         fail("%s: -o takes exactly one address", verb->name);
     command.words = arguments->operands + files;
@@ -131,7 +136,8 @@ static int run(const struct verb *verb, const struct arguments *arguments)
     begin_report(verb->name, (arguments->options & JSON) != 0);
     check_options(verb, arguments);
     struct command command = judge(verb, arguments);
-    bool from_input = (takes_addresses(verb) && command.word_count == 0) || (takes_ranges(verb) && command.word_count == 1);
+    bool from_input = takes_addresses(verb) ? command.word_count == 0
+                                            : takes_ranges(verb) && command.word_count == (command.cr3 == NULL);
     if (!from_input || !isatty(STDIN_FILENO))
         start_progress();
     int status = verb->run(&command);

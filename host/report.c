@@ -342,6 +342,14 @@ void add_count(const char *name, uint64_t count, const char *word)
         printf(", %" PRIu64 " %s%s", count, word, count == 1 ? "" : "s");
 }
 
+void add_place(uint64_t place, bool variable)
+{
+    if (json)
+        put_json_count("place", place);
+    else if (variable)
+        printf(", place %" PRIu64, place);
+}
+
 void add_text(const char *name, const char *text)
 {
     if (json) {

@@ -34,6 +34,9 @@ void begin_range(uint64_t start, uint64_t last);
 void add_value(const char *name, const char *words, uint64_t value);
 void add_count(const char *name, uint64_t count, const char *word);
 
+/* The place of a directory in its page: in JSON always, in lines if it may be another than 0. */
+void add_place(uint64_t place, bool variable);
+
 /* A text of the program's own, and whether bytes came from a page of zeros, which is marked in words. */
 void add_text(const char *name, const char *text);
 void add_zeros(bool zeros);

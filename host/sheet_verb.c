@@ -1,5 +1,6 @@
 #include "sheet_verb.h"
 
+#include "address_space.h"
 #include "answer_numbers.h"
 #include "fail.h"
 #include "glintloom.h"
@@ -94,9 +95,15 @@ static void add_range(struct page_ranges *ranges, uint64_t start, uint64_t pages
     ranges->count++;
 }
 
+/* --cr3 stands in place of the directory, which is the first operand. */
+static size_t first_range(const struct command *command)
+{
+    return command->cr3 == NULL;
+}
+
 static void take_operands(const struct command *command, struct page_ranges *ranges)
 {
-    for (size_t i = 1; i < command->word_count; i++) {
+    for (size_t i = first_range(command); i < command->word_count; i++) {
         const char *word = command->words[i];
         uint64_t start, pages;
         const char *fault = parse_range(word, strlen(word), command->in_pages, &start, &pages);
@@ -122,14 +129,38 @@ static void take_input(const struct command *command, struct page_ranges *ranges
     }
 }
 
-static uint64_t directory_page(const struct command *command)
+static uint64_t mode_of(const struct command *command)
 {
-    const char *word = command->words[0];
-    uint64_t page;
-    const char *fault = parse_pages(word, strlen(word), command->in_pages, "DIRECTORY is not a multiple of 4,096", &page);
+    if (command->plain && command->pae)
+        fail("sheet: --plain and --pae exclude each other");
+    return command->plain ? GLINT_MODE_PLAIN : command->pae ? GLINT_MODE_PAE : GLINT_MODE_FOUR_LEVEL;
+}
+
+static struct address_space address_space_of(const struct command *command)
+{
+    static const char half_page[] = "DIRECTORY is not a multiple of 4,096";
+    static const char half_page_of_pae[] = "DIRECTORY is not a multiple of 4,096; --cr3 takes a place in the page too";
+    struct address_space space = {mode_of(command), 0, 0};
+    const char *word = command->cr3 != NULL ? command->cr3 : command->words[0], *fault;
+    size_t length = strlen(word);
+    if (command->cr3 != NULL)
+        fault = parse_cr3(word, length, space.mode, &space);
+    else
+        fault = parse_pages(word, length, command->in_pages, command->pae ? half_page_of_pae : half_page, &space.directory);
     if (fault != NULL)
         fail("'%s': %s", word, fault);
-    return page;
+    return space;
+}
+
+/* A number in the first range's place is a directory, too many beside --cr3. */
+static void judge_first_range(const struct command *command)
+{
+    uint64_t number;
+    if (command->cr3 == NULL || command->word_count == 0)
+        return;
+    const char *word = command->words[0];
+    if (parse_number(word, strlen(word), &number) == NULL)
+        fail("'%s': no range, and --cr3 stands in place of DIRECTORY", word);
 }
 
 static void report_ranges(const struct page_ranges *ranges)
@@ -146,14 +177,13 @@ static void report_ranges(const struct page_ranges *ranges)
 }
 
 /* The first line; the length asked for is that of the sheet as it was written. */
-static void report_sheet(glint_written written, const uint8_t *sheet, uint64_t directory, size_t range_count)
+static void report_sheet(glint_written written, const uint8_t *sheet, struct address_space space, size_t range_count)
 {
     bool done = !is_refusal(written.number);
     begin_number(written.number);
     if (done)
         add_length(written.length);
-    add_value("directory", "directory", directory * GLINT_PAGE_BYTES);
-    add_value("directory_page", "directory page", directory);
+    add_address_space(space);
     add_count("range_count", range_count, "range");
     if (done)
         add_value("asked_length", "image length asked for", glint_image_length(sheet, (size_t)written.length).length);
@@ -162,18 +192,19 @@ static void report_sheet(glint_written written, const uint8_t *sheet, uint64_t d
 int sheet_verb(const struct command *command)
 {
     struct page_ranges ranges = {NULL, NULL, 0, 0};
-    uint64_t directory = directory_page(command);
+    struct address_space space = address_space_of(command);
     uint8_t sheet[GLINT_SHEET_BYTES];
-    if (command->word_count > 1)
+    judge_first_range(command);
+    if (command->word_count > first_range(command))
         take_operands(command, &ranges);
     else
         take_input(command, &ranges);
-    glint_written written =
-        glint_write_sheet(directory, ranges.starts, ranges.count, ranges.lengths, ranges.count, sheet, sizeof sheet);
+    glint_written written = glint_write_sheet(space.directory, space.mode, space.place, ranges.starts, ranges.count,
+                                              ranges.lengths, ranges.count, sheet, sizeof sheet);
     bool done = !is_refusal(written.number);
     if (done && command->output != NULL)
         write_output_file(command->output, sheet, (size_t)written.length);
-    report_sheet(written, sheet, directory, ranges.count);
+    report_sheet(written, sheet, space, ranges.count);
     report_ranges(&ranges);
     if (done && command->output == NULL) {
         add_digits(sheet, (size_t)written.length);

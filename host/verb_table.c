@@ -11,15 +11,17 @@
 
 const struct verb verbs[] = {
     {"sheet", "DIRECTORY [RANGE...]", "the case sheet of ranges of physical memory",
-     "DIRECTORY is the physical address of the top page table, CR3 or the DTB of a process. A RANGE is START+LENGTH or\n"
-     "START-END, in bytes and of whole pages; END is the last byte or the byte behind it. Each range starts at or behind\n"
-     "the end of the one before; those that touch are joined. Shown are the sheet's length, what was given, in bytes and\n"
-     "in pages, the image length that the ranges ask for, and the sheet's bytes.\n"
+     "DIRECTORY is the physical address of the top page table, CR3 or the DTB of a process; --cr3 VALUE may stand in its\n"
+     "place. The machine is a 64-bit one, unless --plain or --pae says otherwise. A RANGE is START+LENGTH or START-END, in\n"
+     "bytes and of whole pages; END is the last byte or the byte behind it. Each range starts at or behind the end of the\n"
+     "one before; those that touch are joined. Shown are the sheet's length, what was given, with the profile and in bytes\n"
+     "and in pages, the image length that the ranges ask for, and the sheet's bytes.\n"
      "With [RANGE...] left out, ranges are read from standard input, one to a line; blank lines are skipped.\n",
-     0, 1, ANY_RANGES, OUTPUT | PAGES, sheet_verb},
-    {"case", "CASE", "the directory page, the runs and the lengths of a case",
-     "Shown are the runs of physical memory with their places in the image, and the image length that the sheet asks for\n"
-     "beside the one that the file has; or the case's fault.\n",
+     0, 1, ANY_RANGES, OUTPUT | PAGES | PLAIN | PAE | CR3, sheet_verb},
+    {"case", "CASE", "the profile, the directory, the runs and the lengths of a case",
+     "Shown are the profile (64-bit four-level, 32-bit plain or 32-bit PAE), the directory and its page, with PAE its place\n"
+     "in units of 32 bytes, the runs of physical memory with their places in the image, and the image length that the sheet\n"
+     "asks for beside the one that the file has; or the case's fault.\n",
      FILES_OF_CASE, 0, 0, NO_PAGEFILE, case_verb},
     {"resolve", "CASE [ADDRESS...]", "where each address leads",
      "For each address the offset in its file, or its refusal, and the page table entries read.\n",

@@ -13,8 +13,8 @@ struct command {
     size_t number_count;
     char **words;              /* the operands behind the files, as they were written */
     size_t word_count;
-    const char *output;
-    bool all, in_pages;
+    const char *output, *cr3;  /* NULL without -o and --cr3 */
+    bool all, in_pages, plain, pae;
 };
 
 int resolve_verb(const struct command *command);

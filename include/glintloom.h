@@ -27,8 +27,8 @@ extern "C" {
 
 /* The version of this header. MAJOR, which the shared library's name carries, moves where a program that was compiled with
  * an older header could no longer run; MINOR where only something was added; PATCH where the header stays. */
-#define GLINT_VERSION_MAJOR 2
-#define GLINT_VERSION_MINOR 1
+#define GLINT_VERSION_MAJOR 3
+#define GLINT_VERSION_MINOR 0
 #define GLINT_VERSION_PATCH 0
 
 /* What the number of an answer is about. */
@@ -59,7 +59,7 @@ enum glint_kind {
     X(PAGEFILE_NOT_WHOLE_PAGES, 16, CASE, "pagefile length not a multiple of 4,096")            \
     X(SHEET_BUFFER_SHORT, 17, CALL, "sheet buffer too short")                                   \
     X(NUMBER_NOT_SHORTEST, 18, CASE, "number not in its shortest form")                         \
-    X(NOT_CANONICAL, 20, ADDRESS, "address not canonical, or past the top")                     \
+    X(NOT_CANONICAL, 20, ADDRESS, "address not canonical, or past the top (2^32 for 32 bits)")  \
     X(UPPER_ENTRY_NOT_VALID, 21, ADDRESS, "first or second level entry not valid")              \
     X(REGION_NEEDED, 22, ADDRESS, "region record needed")                                       \
     X(FRAME_IN_NO_RUN, 23, ADDRESS, "frame in no run")                                          \
@@ -70,6 +70,8 @@ enum glint_kind {
     X(PROTOTYPE_CHAIN_TOO_LONG, 28, ADDRESS, "a fourth prototype entry would be needed")        \
     X(PROTOTYPE_UNALIGNED, 29, ADDRESS, "prototype address not a multiple of 8")                \
     X(PAGE_IN_STORE, 31, ADDRESS, "page is in the compressed store")                            \
+    X(STATE_NOT_FOLLOWED, 34, ADDRESS, "entry of a 32-bit profile in a state not followed")     \
+    X(MODE_NOT_SERVED, 37, CALL, "processor block or list asked of a 32-bit profile")           \
     X(BAD_MAP_RANGE, 40, CALL, "map range wrong")                                               \
     X(OUTSIDE_MAP, 41, CALL, "address outside the map")                                         \
     X(BAD_EXTENT, 43, CALL, "extent wrong")                                                     \
@@ -98,8 +100,20 @@ enum {
     GLINT_PAGE_POOL_HEADERS = 512  /* a page has at most these, so `out` of as many for each page is never too short */
 };
 
-/* No sheet is longer: 1, 6 and 2 bytes before the runs, then at most 12 bytes a run (gap 6, length 6). */
-#define GLINT_SHEET_BYTES ((size_t)9 + (size_t)12 * GLINT_SHEET_RUNS)
+/* The profile of a case: the paging mode of its machine, by Intel's manual. Addresses of the 32-bit profiles are below 2^32;
+ * their tables are asked for valid entries and entries in transition alone, and lead to the image or to a refusal. */
+enum glint_mode {
+    GLINT_MODE_FOUR_LEVEL,    /* 64-bit, four levels of 8-byte entries: a sheet of edition 1 */
+    GLINT_MODE_PLAIN,         /* 32-bit, two levels of 4-byte entries */
+    GLINT_MODE_PAE            /* 32-bit with physical address extension, three levels of 8-byte entries */
+};
+
+/* The place of a directory in its page is how many times 32 bytes it lies into it: 0 to 127 with PAE, as bits 5 to 11 of CR3
+ * have it, and 0 in the other modes, whose top table is a whole page. */
+enum { GLINT_PLACE_BYTES = 32 };
+
+/* No sheet is longer: 1, 6, 1, 1 and 2 bytes before the runs, then at most 12 bytes a run (gap 6, length 6). */
+#define GLINT_SHEET_BYTES ((size_t)11 + (size_t)12 * GLINT_SHEET_RUNS)
 
 /* No map is longer: 1, 6 and 3 bytes before the extents, then at most 8 bytes a page (code 1, length 1, first page 6). */
 #define GLINT_MAP_BYTES ((size_t)10 + (size_t)8 * GLINT_MAP_PAGES)
@@ -109,7 +123,7 @@ enum {
 
 /* number: 1 or 2 (then offset is the addressed byte's in the image or pagefile), 3, or a refusal (offset is the position for
  * 11 and 18, and 0 for 3 and all other refusals); entries: page table and prototype entries read, again if read again, at
- * most 19. */
+ * most 19, and 2 or 3 with GLINT_MODE_PLAIN or GLINT_MODE_PAE. */
 typedef struct { uint64_t number, offset, entries; } glint_answer;
 
 /* number: 0, or a refusal (then length is the position for 11 and 18, else 0, and zeros is 0); length: bytes written; zeros:
@@ -123,12 +137,12 @@ typedef struct { uint64_t file, offset, length; } glint_part;
  * glint_image_length bytes. */
 typedef struct { uint64_t number, length; } glint_written;
 
-/* number: 0, or a refusal (then directory is 0, and length is the position for 11 and 18, else 0); directory: the frame of
- * the top table; length: runs. */
-typedef struct { uint64_t number, directory, length; } glint_case_read;
+/* number: 0, or a refusal (then directory, mode and place are 0, and length is the position for 11 and 18, else 0);
+ * directory: the frame of the top table; mode: one of enum glint_mode; place: the directory's in that frame; length: runs. */
+typedef struct { uint64_t number, directory, mode, place, length; } glint_case_read;
 
-/* number: 1, 2, 3, 21 to 29 or 31 as the map has it, or a refusal of the lookup; offset: for 1 and 2 the addressed byte's,
- * for 11 and 18 the position, else 0. */
+/* number: 1, 2, 3, 21 to 29, 31 or 34 as the map has it, or a refusal of the lookup; offset: for 1 and 2 the addressed
+ * byte's, for 11 and 18 the position, else 0. */
 typedef struct { uint64_t number, offset; } glint_found;
 
 /* Whole seconds since 1 January 1601 UTC, and the ticks of 100 nanoseconds left over, 0 to 9,999,999; both exact. */
@@ -165,31 +179,33 @@ glint_bytes glint_read(const uint8_t *sheet, size_t sheet_length, const uint8_t 
 glint_time_answer glint_read_time(const uint8_t *sheet, size_t sheet_length, const uint8_t *image, size_t image_length,
                                   const uint8_t *pagefile, size_t pagefile_length, uint64_t address);
 
-/* The map of `pages` pages (1 to 2^20) from `start` (a multiple of 4,096) on into `out`: 44 exactly if it is longer than
- * `out`. Bytes past the map stay. A library without number 31 took a page of the compressed store for one of the pagefile:
- * its maps may name places of the pagefile that hold nothing of the page, and are to be made again. It says 43 to a map with
- * code 31; a map without such a page has the same bytes by both, and each reads it. */
+/* The map of `pages` pages (1 to 2^20) from `start` (a multiple of 4,096) on into `out`, all in one half of the addresses or,
+ * of a 32-bit profile, below 2^32; else 40. 44 exactly if it is longer than `out`. Bytes past the map stay. A library without
+ * number 31 took a page of the compressed store for one of the pagefile: its maps may name places of the pagefile that hold
+ * nothing of the page, and are to be made again. It says 43 to a map with code 31, as one without number 34 does to a map
+ * with code 34; a map without such a page has the same bytes by all, and each reads it. */
 glint_written glint_map(const uint8_t *sheet, size_t sheet_length, const uint8_t *image, size_t image_length,
                         const uint8_t *pagefile, size_t pagefile_length, uint64_t start, uint64_t pages,
                         uint8_t *out, size_t out_length);
 
-/* What a map has for an address; the map's own faults come first. */
+/* What a map has for an address; the map's own faults come first. A map does not say of what profile it is, so 20 here is
+ * for addresses that are not canonical alone. */
 glint_found glint_lookup(const uint8_t *map, size_t map_length, uint64_t address);
 
 /* The processor block of 64-bit Windows 7 with the smallest image offset not below `from`: number 1, its offset, and the
- * entries read for its own address; or 55. */
+ * entries read for its own address; or 55. A case of a 32-bit profile has none: 37. */
 glint_answer glint_processor_block(const uint8_t *sheet, size_t sheet_length, const uint8_t *image, size_t image_length,
                                    const uint8_t *pagefile, size_t pagefile_length, uint64_t from);
 
 /* The node addresses of the list from `head` on, in order and without `head`, into `out`; out_length counts 64-bit numbers,
- * and so does the answer's length. Numbers past it stay. */
+ * and so does the answer's length. Numbers past it stay. A case of a 32-bit profile is 37, whatever the head. */
 glint_written glint_process_list(const uint8_t *sheet, size_t sheet_length, const uint8_t *image, size_t image_length,
                                  const uint8_t *pagefile, size_t pagefile_length, uint64_t head,
                                  uint64_t *out, size_t out_length);
 
-/* What the sheet of a case says, checked with the lengths of its two files: the directory page, and for each run three
- * numbers into `out`: first frame, pages, and image page, which is how many pages the runs before it have. out_length counts
- * 64-bit numbers: 53 exactly if three a run are more. Numbers past them stay. */
+/* What the sheet of a case says, checked with the lengths of its two files: the directory page, mode and place, and for each
+ * run three numbers into `out`: first frame, pages, and image page, which is how many pages the runs before it have.
+ * out_length counts 64-bit numbers: 53 exactly if three a run are more. Numbers past them stay. */
 glint_case_read glint_case(const uint8_t *sheet, size_t sheet_length, uint64_t image_length, uint64_t pagefile_length,
                            uint64_t *out, size_t out_length);
 
@@ -203,12 +219,15 @@ glint_written glint_image_length(const uint8_t *sheet, size_t sheet_length);
  * pages; the offsets are then from the part's start. */
 glint_written glint_pool_headers(const uint8_t *image, size_t image_length, uint64_t *out, size_t out_length);
 
-/* The sheet of a directory page and of runs, given by their starts and lengths in pages, into `out`; runs that touch are
- * joined. 12 for a number of 2^36 or more, lists that differ in length, or a count outside 1 to 1,000; then 13 for a length
- * 0, a start before the end of the run given just before, an end past page 2^36, or joined runs of all 2^36 pages; then 17
- * exactly if the sheet is longer than `out`. Bytes past the sheet stay. */
-glint_written glint_write_sheet(uint64_t directory, const uint64_t *starts, size_t starts_length,
-                                const uint64_t *lengths, size_t lengths_length, uint8_t *out, size_t out_length);
+/* The sheet of a directory page, its mode and its place, and of runs, given by their starts and lengths in pages, into `out`;
+ * runs that touch are joined. It is of edition 1 for GLINT_MODE_FOUR_LEVEL, and else of edition 2, to which a library of
+ * version 2 says 12. 12 for a number of 2^36 or more, a mode above 2, a place above 127 or, but for GLINT_MODE_PAE, other
+ * than 0, lists that differ in length, or a count outside 1 to 1,000; then 13 for a length 0, a start before the end of the
+ * run given just before, an end past page 2^36, or joined runs of all 2^36 pages; then 17 exactly if the sheet is longer than
+ * `out`. Bytes past the sheet stay. */
+glint_written glint_write_sheet(uint64_t directory, uint64_t mode, uint64_t place, const uint64_t *starts,
+                                size_t starts_length, const uint64_t *lengths, size_t lengths_length,
+                                uint8_t *out, size_t out_length);
 
 #ifdef __cplusplus
 }

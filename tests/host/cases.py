@@ -20,6 +20,7 @@ def load_make_case():
 
 make_case = load_make_case()
 SHIPPED = make_case.CRATE / "data"
+FOUR_LEVEL, PLAIN, PAE = range(3)
 
 
 class Files:
@@ -40,8 +41,13 @@ def shipped_case(directory):
     return Files(directory, *((SHIPPED / name).read_bytes() for name in ("sheet", "image", "pagefile")))
 
 
-def sheet_of(directory_frame, runs):
-    fields, end = [1, directory_frame, len(runs)], 0
+def machine_case(name, directory):
+    """A copy of the shipped case of a 32-bit machine."""
+    return Files(directory, *((make_case.CASES / name / part).read_bytes() for part in ("sheet", "image", "pagefile")))
+
+
+def sheet_of(directory_frame, runs, mode=0, place=0):
+    fields, end = [*([2, directory_frame, mode, place] if mode else [1, directory_frame]), len(runs)], 0
     for first, pages in runs:
         fields += [first - end, pages]
         end = first + pages

@@ -4,7 +4,7 @@ import random
 from collections import Counter
 
 from cases import PAGE, SHIPPED, block_case, list_case, make_case, pool_page
-from expected import REFUSALS
+from expected import PROFILES, REFUSALS
 from library import Library
 from program import run
 
@@ -53,6 +53,9 @@ class Damage:
         self.cases = [[path.read_bytes() for path in list_files.words()]]
         self.cases.append([path.read_bytes() for path in block_case(directory)[0].words()])
         self.shipped = [(SHIPPED / name).read_bytes() for name in ("sheet", "image", "pagefile")]
+        machines = make_case.MACHINES.values()
+        self.cases += [[machine.sheet(), machine.image(), machine.pagefile()] for machine in machines]
+        self.addresses += [address for machine in machines for address, _, _ in machine.answers]
         self.pools = pool_page(1, 2, 509) + bytes(PAGE) + pool_page(*[4] * 128)
         self.cases.append(self.shipped)
 
@@ -103,7 +106,8 @@ class Damage:
         shown = self.run_json("case", *self.paths)[0]
         runs = [tuple(int(run[name], 16) // PAGE for name in ("start", "last", "image_offset")) for run in shown.get("runs", [])]
         runs = [(first, last + 1 - first, page) for first, last, page in runs]
-        answered = (shown["number"], int(shown.get("directory_page", "0"), 16), runs)
+        mode = PROFILES.index(shown.get("profile", PROFILES[0]))
+        answered = (shown["number"], (int(shown.get("directory_page", "0"), 16), mode, shown.get("place", 0)), runs)
         self.expect(("case",), answered, self.library.case(case))
         asked = int(shown.get("asked_length", shown.get("position", "0")), 16)
         self.expect(("case",), asked, self.library.image_length(case[0])[1])

@@ -106,9 +106,28 @@ def dump(address, content):
     return lines
 
 
-def shipped_answers():
-    return [(address, *map(int, line.split())) for address, line, _ in make_case.ANSWERS]
+def shipped_answers(answers=make_case.ANSWERS):
+    return [(address, *map(int, line.split())) for address, line, _ in answers]
 
 
-def shipped_lines():
-    return [place(*answer) for answer in shipped_answers()]
+def shipped_lines(answers=make_case.ANSWERS):
+    return [place(*answer) for answer in shipped_answers(answers)]
+
+
+def counted(count, word):
+    return f"{count} {word}" if count == 1 else f"{count} {word}s"
+
+
+PROFILES = ("64-bit four-level", "32-bit plain", "32-bit PAE")
+PLACE_BYTES = 32
+
+
+def address_space(directory, mode=0, place_in_page=0):
+    """What the first line of sheet and of case says of the directory."""
+    line = f", {PROFILES[mode]}, directory 0x{directory * 4096 + PLACE_BYTES * place_in_page:X}, directory page 0x{directory:X}"
+    return line + (f", place {place_in_page}" if mode == 2 else "")
+
+
+def json_address_space(directory, mode=0, place_in_page=0):
+    given = {"profile": PROFILES[mode], "directory": f"0x{directory * 4096 + PLACE_BYTES * place_in_page:X}"}
+    return {**given, "directory_page": f"0x{directory:X}", "place": place_in_page}

@@ -15,7 +15,7 @@ RETURNS = {
     "glint_lookup": [U64] * 2,
     "glint_processor_block": [U64] * 3,
     "glint_process_list": [U64] * 2,
-    "glint_case": [U64] * 3,
+    "glint_case": [U64] * 5,
     "glint_image_length": [U64] * 2,
     "glint_pool_headers": [U64] * 2,
     "glint_write_sheet": [U64] * 2,
@@ -83,12 +83,12 @@ class Library:
         return number, written(number, length, room)
 
     def case(self, case):
-        """Number, directory page and runs as (first frame, pages, image page)."""
+        """Number, (directory page, mode, place) and runs as (first frame, pages, image page)."""
         sheet, image, pagefile = case
         room = (U64 * 3000)()
-        number, directory, runs = self.call("glint_case", [sheet], len(image), len(pagefile), room, SIZE(len(room)))
+        number, *space, runs = self.call("glint_case", [sheet], len(image), len(pagefile), room, SIZE(len(room)))
         numbers = written(number, 3 * runs, room)
-        return number, directory, [tuple(numbers[k : k + 3]) for k in range(0, len(numbers), 3)]
+        return number, tuple(space), [tuple(numbers[k : k + 3]) for k in range(0, len(numbers), 3)]
 
     def image_length(self, sheet):
         return self.call("glint_image_length", [sheet])
@@ -99,10 +99,10 @@ class Library:
         number, length = self.call("glint_pool_headers", [image], room, SIZE(len(room)))
         return number, written(number, length, room)
 
-    def write_sheet(self, directory, runs):
+    def write_sheet(self, directory, runs, mode=0, place=0):
         """Number and bytes; the runs as (first page, pages)."""
         starts, lengths = ((U64 * len(runs))(*numbers) for numbers in (zip(*runs) if runs else ((), ())))
-        room = (ctypes.c_uint8 * 12009)()
+        room = (ctypes.c_uint8 * 12011)()
         lists = slices(starts, lengths)
-        number, length = self.call("glint_write_sheet", [], directory, *lists, room, SIZE(len(room)))
+        number, length = self.call("glint_write_sheet", [], directory, mode, place, *lists, room, SIZE(len(room)))
         return number, bytes(written(number, length, room))

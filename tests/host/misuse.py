@@ -12,6 +12,7 @@ from program import ANSWERED, FAILED, REFUSED, run
 
 VERBS = ("sheet", "case", "resolve", "page", "read", "time", "map", "lookup", "processor-block", "list", "pool", "explain", "help")
 OPTIONS = ("-o", "--json", "--no-pagefile", "--all", "--pages", "--", "-h", "--help", "--version", "-", "-oout", "--json=1")
+OPTIONS += ("--plain", "--pae", "--cr3")
 NUMBERS = ("0", "1", "0x", "-1", "00", "0x1000", "4096", "18446744073709551615", "18446744073709551616", "fffff8a0`02bd2ed8")
 RANGES = ("0x1000+0x9E000", "0x1000-0x9EFFF", "4096-8192", "1+1", "0+0", "+", "-", "0x1000+", "0x1000-0xFFF", "0-0xFFFFFFFFFFFFFFFF")
 

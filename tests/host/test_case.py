@@ -1,6 +1,7 @@
 """The verb `case`: what the sheet says, the lengths of the files beside what it asks for, or the fault."""
-from cases import MACHINE_IMAGE, MACHINE_PAGEFILE, MACHINE_RUNS, PAGE, Files, make_case, printed_machine, sheet_of, shipped_case
-from expected import REFUSALS, WORDS
+from cases import MACHINE_IMAGE, MACHINE_PAGEFILE, MACHINE_RUNS, PAE, PAGE, PLAIN, Files
+from cases import machine_case, make_case, printed_machine, sheet_of, shipped_case
+from expected import REFUSALS, WORDS, address_space, counted, json_address_space
 from program import ANSWERED, REFUSED, HostTest
 
 
@@ -10,14 +11,10 @@ def lengths(asked, image, pagefile):
     return f"{text}, image length 0x{image:X}, pagefile length 0x{pagefile:X}"
 
 
-def counted(count, word):
-    return f"{count} {word}" if count == 1 else f"{count} {word}s"
-
-
-def accepted_lines(directory, runs, pagefile):
+def accepted_lines(directory, runs, pagefile, mode=0, place=0):
     """The lines of an accepted case with runs as (first frame, pages)."""
     pages, before = sum(pages for _, pages in runs), 0
-    head = f" 0 done, directory page 0x{directory:X}, {counted(len(runs), 'run')}, {counted(pages, 'page')}"
+    head = f" 0 done{address_space(directory, mode, place)}, {counted(len(runs), 'run')}, {counted(pages, 'page')}"
     lines = [head + lengths(pages * PAGE, pages * PAGE, pagefile)]
     for first, pages in runs:
         start, last = first * PAGE, (first + pages) * PAGE - 1
@@ -58,6 +55,26 @@ class Case(HostTest):
         runs = [(2**36 - 2, 2)]
         self.says(["case", *self.sparse_case(sheet_of(0, runs), 2 * PAGE)], ANSWERED, accepted_lines(0, runs, 0))
 
+    def test_profiles(self):
+        """Both editions: the shipped machines, and directories at either end."""
+        for name, machine in make_case.MACHINES.items():
+            case, space = machine_case(name, self.directory), (machine.directory, machine.mode, machine.place)
+            pagefile = case.pagefile.stat().st_size
+            self.says(["case", *case.words()], ANSWERED, accepted_lines(space[0], machine.runs, pagefile, *space[1:]))
+            (shown,) = self.answers("case", *case.words())
+            self.assertLessEqual(json_address_space(*space).items(), {k: v for k, v in shown.items() if k != "runs"}.items())
+        for directory, mode, place in ((7, 0, 0), (0, PLAIN, 0), (2**36 - 1, PLAIN, 0), (0, PAE, 0), (2**36 - 1, PAE, 127)):
+            case = self.sparse_case(sheet_of(directory, [(0, 1)], mode, place), PAGE)
+            self.says(["case", *case], ANSWERED, accepted_lines(directory, [(0, 1)], 0, mode, place))
+
+    def test_refused_for_a_mode_or_a_place(self):
+        for fields in ([2, 7, 0, 0], [2, 7, 3, 0], [2, 7, 1, 1], [2, 7, 1, 127], [2, 7, 2, 128], [3, 7, 2, 0]):
+            sheet = b"".join(map(make_case.groups, [*fields, 1, 0, 1]))
+            self.says(["case", *self.sparse_case(sheet, PAGE)], REFUSED, [refused_line(12, None, PAGE, 0)])
+        # Refused when the mode is read, before the place.
+        self.says(["case", *self.sparse_case(b"\2\7\0", PAGE)], REFUSED, [refused_line(12, None, PAGE, 0)])
+        self.says(["case", *self.sparse_case(b"\2\7\2", PAGE)], REFUSED, [refused_line(10, None, PAGE, 0)])
+
     def test_refused_for_the_length_of_a_file(self):
         sheet = sheet_of(1, [(1, 4), (9, 1)])
         for image, pagefile, number in ((4 * PAGE, 0, 15), (0, 1, 15), (5 * PAGE + 1, 0, 15), (5 * PAGE, 4095, 16)):
@@ -67,7 +84,7 @@ class Case(HostTest):
     def test_refused_for_a_fault_of_the_sheet(self):
         good = sheet_of(1, [(1, 4)])
         wrong_run = bytes([1, 1, 2, 1, 4, 0, 1])
-        for sheet, number in ((good[:-1], 10), (b"\x02", 12), (wrong_run, 13), (good + b"\0", 14)):
+        for sheet, number in ((good[:-1], 10), (b"\x03", 12), (wrong_run, 13), (good + b"\0", 14)):
             case = self.sparse_case(sheet, 4 * PAGE, PAGE)
             self.says(["case", *case], REFUSED, [refused_line(number, None, 4 * PAGE, PAGE)])
 
@@ -77,7 +94,7 @@ class Case(HostTest):
         self.assertEqual(len(shown), 1)
         runs = shown[0].pop("runs")
         length = f"0x{files.image.stat().st_size:X}"
-        expected = {"number": 0, "words": WORDS[0], "directory_page": f"0x{make_case.DIRECTORY:X}", "run_count": len(runs)}
+        expected = {"number": 0, "words": WORDS[0], **json_address_space(make_case.DIRECTORY), "run_count": len(runs)}
         expected |= {"pages": files.image.stat().st_size // PAGE, "asked_length": length, "image_length": length}
         self.assertEqual(shown, [expected | {"pagefile_length": f"0x{files.pagefile.stat().st_size:X}"}])
         self.assertEqual(runs[0], {"start": "0x200000", "last": "0x203FFF", "image_offset": "0x0", "pages": 4})

@@ -130,6 +130,8 @@ class Failures(HostTest):
         self.after(["resolve", *self.case, "0", "ju\"nk\x1b"], [], "'ju\"nk\\x1B': no number in hex")
         self.after(["read", *self.case, "0"], [], "too few operands")
         self.after(["resolve", *self.case, "0", "-o", "out"], [], "resolve takes no -o")
+        self.after(["sheet", "--plain", "--pae", "0", "0+0x1000"], [], "--plain and --pae exclude each other")
+        self.after(["sheet", "--pae", "--cr3", "0x07600821", "0+0x1000"], [], "CR3 is not a multiple of 32")
 
     def test_files_that_cannot_be_had(self):
         self.after(["resolve", *self.case[:2], self.directory / "missing", "0"], [], "missing: No such file or directory")

@@ -146,6 +146,8 @@ class Completion(LibraryTest):
 
     def test_options(self):
         self.assertEqual(self.completed("read", "--no"), ["--no-pagefile"])
+        self.assertEqual(self.completed("sheet", "--c"), ["--cr3"])
+        self.assertEqual(self.completed("sheet", "--p"), ["--pages", "--plain", "--pae"])
         self.assertLessEqual({"-o", "--all", "--json", "--no-pagefile"}, set(self.completed("read", "-")))
 
     def test_numbers(self):

@@ -7,7 +7,7 @@ from program import ANSWERED, FAILED, HostTest, run
 
 # The verbs with the options that not every verb takes.
 VERBS = {
-    "sheet": {"--pages", "-o"},
+    "sheet": {"--pages", "--plain", "--pae", "--cr3", "-o"},
     "resolve": {"--no-pagefile"},
     "page": {"--no-pagefile", "-o"},
     "read": {"--no-pagefile", "-o"},

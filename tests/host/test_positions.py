@@ -14,10 +14,13 @@ TOO_LONG, NOT_SHORTEST = 11, 18
 SHEETS = (
     [1, 0x187, 2, 1, 0x9E, 0x61, 0x3FEF0],
     [1, 2**36 - 1, 4, *[1, 2**14] * 4],
+    [2, 0x39, 1, 0, 2, 1, 0x9E, 0x61, 0x3FEF0],
+    [2, 0x7600, 2, 127, 1, 0, 2**14],
 )
 MAPS = (
     [1, 0xB10, 3, 1, 2, 5, 22, 1],
     [1, 2**35 - 9, 9, 2, 1, 2**36 - 1, 3, 1, 1, 3, 0x4000, 31, 4],
+    [1, 0xC2E61, 3, 1, 1, 3, 34, 2],
 )
 
 
@@ -188,7 +191,7 @@ class Exports(HostTest):
                 ("glint_process_list", [0xB10000, *buffer], (number, position)),
             ):
                 self.assertEqual(library.call(name, case, *rest), answer, name)
-            self.assertEqual(library.call("glint_case", [content], len(image), 0, *buffer), (number, 0, position))
+            self.assertEqual(library.call("glint_case", [content], len(image), 0, *buffer), (number, 0, 0, 0, position))
             self.assertEqual(library.image_length(content), (number, position))
         for number, position, content in faulty_files(MAPS[0]):
             self.assertEqual(library.lookup(content, 0xB10000), (number, position))

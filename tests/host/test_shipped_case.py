@@ -1,6 +1,7 @@
 """The shipped case has everything: a processor block, a process list that closes, a record with a time in the pagefile,
-a page in the compressed store."""
-from cases import PAGE, SHIPPED, make_case, sheet_of
+a page in the compressed store. Those of the 32-bit machines have what each of their profiles can answer."""
+from cases import PAE, PAGE, PLAIN, SHIPPED, machine_case, make_case, sheet_of
+from expected import shipped_answers
 from library import Library
 from program import ROOT, HostTest
 
@@ -66,3 +67,59 @@ class ShippedCase(HostTest):
         for pagefile in (b"", bytes(PAGE)):
             self.assertEqual(self.library.read([*self.case[:2], pagefile], make_case.RECORD, 8), (27, b"", 0))
             self.assertEqual(self.library.read_time([*self.case[:2], pagefile], make_case.RECORD + 16), (27, 0, 0))
+
+
+class ShippedMachines(HostTest):
+    def setUp(self):
+        super().setUp()
+        self.library = Library()
+
+    def machines(self):
+        """Each machine with the bytes of its case."""
+        for name, machine in make_case.MACHINES.items():
+            case = [path.read_bytes() for path in machine_case(name, self.directory).words()]
+            self.assertLessEqual(sum(map(len, case)), MOST_BYTES // 2)
+            yield machine, case
+
+    def test_files_are_what_make_case_makes(self):
+        for machine, case in self.machines():
+            self.assertEqual(case, [machine.sheet(), machine.image(), machine.pagefile()])
+            sheet = sheet_of(machine.directory, machine.runs, machine.mode, machine.place)
+            self.assertEqual((case[0], self.library.write_sheet(machine.directory, machine.runs, machine.mode, machine.place)),
+                             (sheet, (0, sheet)))
+
+    def test_answers(self):
+        met = {PLAIN: set(), PAE: set()}
+        for machine, case in self.machines():
+            for address, *answer in shipped_answers(machine.answers):
+                self.assertEqual(self.library.resolve(case, address), tuple(answer), hex(address))
+                met[machine.mode].add((answer[0], answer[2]))
+        for mode, most in ((PLAIN, 2), (PAE, 3)):
+            self.assertEqual({number for number, _ in met[mode]}, {1, 20, 21, 23, 24, 34})
+            self.assertEqual(max(entries for _, entries in met[mode]), most)
+
+    def test_worked_address(self):
+        """Document 000's: its three entries at their places, frame 0x11DF3 at place 0x940."""
+        machine, words = make_case.PAE, dict(make_case.PAE.words)
+        self.assertEqual((machine.directory * PAGE + 32 * machine.place, machine.mode), (0x07600820, PAE))
+        entries = [words[0x07600820 + 8 * 3], words[0x0DA6B000 + 8 * 0x17], words[0x073F1000 + 8 * 0x61]]
+        self.assertEqual(entries, [0x0DA6B801, 0x073F1963, 0x11DF3921])
+        self.assertEqual(words[0x073F1000 + 8 * 0x62], 0xE1B1151000000400)
+        case = [machine.sheet(), machine.image(), machine.pagefile()]
+        offset = machine.frames.index(0x11DF3) * PAGE + 0x940
+        self.assertEqual(self.library.resolve(case, 0xC2E61940), (1, offset, 3))
+        self.assertEqual(self.library.resolve(case, 0xC2E62000), (34, 0, 3))
+        self.assertEqual(self.library.page(case, 0xC2E61940), (1, offset // PAGE * PAGE, PAGE))
+        self.assertEqual(self.library.page(case, 0xC2E62000), (0, 0, 0))
+
+    def test_record(self):
+        for address, (machine, case) in zip((0x00400120, 0xC2E61940), self.machines()):
+            self.assertEqual(self.library.read(case, address, len(make_case.TRIP)), (0, make_case.TRIP, 0))
+            ticks = int.from_bytes(make_case.TRIP[16:], "little")
+            self.assertEqual(self.library.read_time(case, address + 16), (0, ticks / 10_000_000, 0))
+
+    def test_no_page_comes_from_the_pagefile(self):
+        for machine, case in self.machines():
+            for address, *answer in shipped_answers(machine.answers):
+                for pagefile in (b"", bytes(PAGE)):
+                    self.assertEqual(self.library.resolve([*case[:2], pagefile], address), tuple(answer))

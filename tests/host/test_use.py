@@ -55,6 +55,9 @@ class WrongUse(HostTest):
         self.fails(["help", "--all"], "help takes no --all")
         self.fails(["pool", "--no-pagefile", self.case[1]], "pool takes no --no-pagefile")
         self.fails(["map", "--pages", *self.case, "0", "1"], "map takes no --pages")
+        self.fails(["case", "--plain", *self.case], "case takes no --plain")
+        self.fails(["resolve", "--pae", *self.case, "0"], "resolve takes no --pae")
+        self.fails(["list", *self.case, "--cr3", "0"], "list takes no --cr3")
 
     def test_counts_of_operands(self):
         for words in (
@@ -328,7 +331,7 @@ class Progress(HostTest):
 class ManualPage(HostTest):
     def test_names_every_verb_and_option(self):
         text = (ROOT / "host" / "glintloom.1").read_text()
-        options = ("--json", "--no-pagefile", "--all", "--pages", "-o", "--help", "--version")
+        options = ("--json", "--no-pagefile", "--all", "--pages", "--plain", "--pae", "--cr3", "-o", "--help", "--version")
         for verb in (*CASE_VERBS, "sheet", "lookup", "pool", "explain", "help"):
             self.assertIn(f"\n\\fBglintloom {verb}\\fR".replace("-", "\\-"), text)
             self.assertIn(f"\n.B {verb}\n".replace("-", "\\-"), text)

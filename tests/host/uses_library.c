@@ -8,7 +8,7 @@
 
 enum { MOST_BYTES = 1 << 16 };
 
-#if GLINT_VERSION_MAJOR != 2
+#if GLINT_VERSION_MAJOR != 3
 #error "another header"
 #endif
 
