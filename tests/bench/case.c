@@ -1,5 +1,7 @@
 #include "case.h"
 
+#include "glintloom.h"
+
 #include <string.h>
 
 enum { FRAMES = WALK_IMAGE_BYTES / PAGE_BYTES, NODE_BYTES = 16, UNITS = PAGE_BYTES / 8, MOST_UNITS = 40 };
@@ -31,12 +33,22 @@ static void put_number(struct bench_case *c, uint64_t n) {
 /* The runs divide the image as evenly as they can. */
 static uint64_t first_page(const struct bench_case *c, size_t run) { return run * (c->image_length / PAGE_BYTES) / c->run_count; }
 
-/* Runs one frame apart. */
-static void make_runs(struct bench_case *c, size_t run_count) {
-    c->run_count = run_count;
+/* Edition, directory page and, in edition 2, mode and place. */
+static void make_address_space(struct bench_case *c, uint64_t mode) {
+    c->mode = mode;
+    c->place = mode == GLINT_MODE_PAE ? PAE_PLACE : 0;
     c->sheet_length = 0;
-    put_number(c, 1);
+    put_number(c, mode == GLINT_MODE_FOUR_LEVEL ? 1 : 2);
     put_number(c, 0);
+    if (mode == GLINT_MODE_FOUR_LEVEL) return;
+    put_number(c, c->mode);
+    put_number(c, c->place);
+}
+
+/* Runs one frame apart. */
+static void make_runs(struct bench_case *c, size_t run_count, uint64_t mode) {
+    c->run_count = run_count;
+    make_address_space(c, mode);
     put_number(c, run_count);
     for (size_t i = 0; i < run_count; i++) {
         uint64_t first = first_page(c, i), after = first_page(c, i + 1);
@@ -60,15 +72,31 @@ static void put_entry(struct bench_case *c, uint64_t table, uint64_t index, uint
     put_word(c, table, 8 * index, frame_of(c, to) << 12 | 1);
 }
 
-/* Tables for MAPPED_PAGES pages, which lead to any pages of the image: 1 + 4 + 2,048 of them.
- * Takes the first of `unused`, and hands back the rest. */
-static const uint64_t *map_pages(struct bench_case *c, const uint64_t *unused) {
-    const uint64_t *pointers = unused, *directories = unused + 1, *tables = directories + 4, *behind = tables + 2048;
-    put_entry(c, 0, 0, *pointers);
-    for (uint64_t i = 0; i < 4; i++) put_entry(c, *pointers, i, directories[i]);
+/* Tables below 4 entries of the table at image page `top`, from entry `first` on, for MAPPED_PAGES pages that lead to any
+ * pages of the image: 4 + 2,048 of them. Takes the first of `unused`, and hands back the rest. */
+static const uint64_t *map_below(struct bench_case *c, uint64_t top, uint64_t first, const uint64_t *unused) {
+    const uint64_t *directories = unused, *tables = directories + 4, *behind = tables + 2048;
+    for (uint64_t i = 0; i < 4; i++) put_entry(c, top, first + i, directories[i]);
     for (uint64_t i = 0; i < 2048; i++) put_entry(c, directories[i / 512], i % 512, tables[i]);
     for (uint64_t i = 0; i < MAPPED_PAGES; i++) put_entry(c, tables[i / 512], i % 512, next_random() % FRAMES);
     return behind;
+}
+
+static const uint64_t *map_pages(struct bench_case *c, const uint64_t *unused) {
+    put_entry(c, 0, 0, *unused);
+    return map_below(c, *unused, 0, unused + 1);
+}
+
+/* An entry of 4 bytes. */
+static void put_plain_entry(struct bench_case *c, uint64_t table, uint64_t index, uint64_t to) {
+    uint32_t entry = (uint32_t)(frame_of(c, to) << 12 | 1);
+    memcpy(c->image + table * PAGE_BYTES + 4 * index, &entry, 4);
+}
+
+/* The same with 1,024 tables of 4-byte entries. */
+static void map_plain_pages(struct bench_case *c, const uint64_t *tables) {
+    for (uint64_t i = 0; i < 1024; i++) put_plain_entry(c, 0, i, tables[i]);
+    for (uint64_t i = 0; i < MAPPED_PAGES; i++) put_plain_entry(c, tables[i / 1024], i % 1024, next_random() % FRAMES);
 }
 
 /* The head and each node in a page of its own, linked in a shuffled order. */
@@ -101,15 +129,17 @@ static void fill_with_times(struct bench_case *c) {
     }
 }
 
-void make_walk_case(struct bench_case *c, uint8_t *image, size_t run_count) {
+void make_walk_case(struct bench_case *c, uint8_t *image, size_t run_count, uint64_t mode) {
     static uint64_t free_pages[FRAMES - 1];
     c->image = image;
     c->image_length = WALK_IMAGE_BYTES;
-    make_runs(c, run_count);
+    make_runs(c, run_count, mode);
     fill_with_times(c);
     for (uint64_t i = 0; i < FRAMES - 1; i++) free_pages[i] = i + 1;
     shuffle(free_pages, FRAMES - 1);
-    make_list(c, map_pages(c, free_pages));
+    if (mode == GLINT_MODE_PLAIN) map_plain_pages(c, free_pages);
+    else if (mode == GLINT_MODE_PAE) map_below(c, 0, PAE_PLACE * GLINT_PLACE_BYTES / 8, free_pages);
+    else make_list(c, map_pages(c, free_pages));
 }
 
 void make_runs_apart(uint64_t *starts, uint64_t *lengths, size_t count) {
@@ -132,7 +162,7 @@ static void lay_pool(struct bench_case *c, uint64_t page) {
 void make_search_case(struct bench_case *c, uint8_t *image, enum filling filling) {
     c->image = image;
     c->image_length = SEARCH_IMAGE_BYTES;
-    make_runs(c, 1);
+    make_runs(c, 1, GLINT_MODE_FOUR_LEVEL);
     memset(image, 0, c->image_length);
     for (size_t o = 0; filling != ZEROS && o < c->image_length; o += 8) {
         uint64_t word = next_random();

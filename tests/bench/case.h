@@ -9,7 +9,8 @@ enum {
     PAGE_BYTES = 4096,
     MOST_RUNS = 1000,
     MAPPED_PAGES = 1 << 20,
-    LIST_NODES = 4096
+    LIST_NODES = 4096,
+    PAE_PLACE = 65
 };
 
 #define WALK_IMAGE_BYTES ((size_t)64 << 20)
@@ -19,8 +20,9 @@ enum {
 struct bench_case {
     uint8_t *image;
     size_t image_length;
-    uint8_t sheet[9 + 12 * MOST_RUNS]; /* no accepted sheet is longer */
+    uint8_t sheet[11 + 12 * MOST_RUNS]; /* no accepted sheet is longer */
     size_t sheet_length;
+    uint64_t mode, place;
     uint64_t rows[3 * MOST_RUNS]; /* the runs as crates/sheet hands them to the walk */
     size_t run_count;
     uint64_t list_head;
@@ -28,9 +30,10 @@ struct bench_case {
 
 uint64_t next_random(void);
 
-/* An image in so many runs, whose tables map MAPPED_PAGES pages from address 0 on, and a list of LIST_NODES nodes in
- * kernel space; all other words are times. `image` has room for WALK_IMAGE_BYTES. */
-void make_walk_case(struct bench_case *c, uint8_t *image, size_t run_count);
+/* An image in so many runs, whose tables of this mode map MAPPED_PAGES pages from address 0 on, which are all that the 32-bit
+ * modes have, and in mode 0 a list of LIST_NODES nodes in kernel space; all other words are times. `image` has room for
+ * WALK_IMAGE_BYTES. */
+void make_walk_case(struct bench_case *c, uint8_t *image, size_t run_count, uint64_t mode);
 
 /* Runs that do not touch, with gaps and lengths of up to 2^21 pages. */
 void make_runs_apart(uint64_t *starts, uint64_t *lengths, size_t count);

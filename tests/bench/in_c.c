@@ -21,6 +21,8 @@ enum {
     REGION_NEEDED = 22,
     FRAME_IN_NO_RUN = 23,
     FRAME_TOO_WIDE = 24,
+    STATE_NOT_FOLLOWED = 34,
+    MODE_NOT_SERVED = 37,
     BAD_MAP_RANGE = 40,
     MAP_BUFFER_SHORT = 44,
     READ_BUFFER_SHORT = 45,
@@ -41,7 +43,7 @@ enum {
 struct world {
     const uint64_t *rows;
     size_t row_numbers;
-    uint64_t directory;
+    uint64_t directory, mode, place;
     const uint8_t *image;
     uint64_t image_length;
 };
@@ -49,12 +51,13 @@ struct world {
 /* ---- the sheet */
 
 struct sheet {
-    uint64_t directory;
+    uint64_t directory, mode, place;
     uint64_t rows[3 * MOST_RUNS];
     size_t row_numbers;
 };
 
-static uint64_t read_field(const uint8_t *bytes, size_t length, size_t *at, uint64_t *value) {
+static inline __attribute__((always_inline)) uint64_t read_field(const uint8_t *bytes, size_t length, size_t *at,
+                                                                 uint64_t *value) {
     *value = 0;
     for (int shift = 0; shift < 42; shift += 7) {
         if (*at == length) return TRUNCATED;
@@ -83,13 +86,24 @@ static uint64_t read_runs(const uint8_t *bytes, size_t length, size_t *at, uint6
     return 0;
 }
 
+/* A call, or gcc no longer compiles the check of the sheet into c_resolve, and C would be the slower in mode 0. */
+static __attribute__((noinline)) uint64_t read_mode(const uint8_t *bytes, size_t length, size_t *at, struct sheet *sheet) {
+    uint64_t fault;
+    if ((fault = read_field(bytes, length, at, &sheet->mode))) return fault;
+    if (sheet->mode < GLINT_MODE_PLAIN || sheet->mode > GLINT_MODE_PAE) return OUT_OF_LIMITS;
+    if ((fault = read_field(bytes, length, at, &sheet->place))) return fault;
+    return sheet->place > (sheet->mode == GLINT_MODE_PAE ? 127 : 0) ? OUT_OF_LIMITS : 0;
+}
+
 static uint64_t check_sheet(const uint8_t *bytes, size_t length, uint64_t image_length, uint64_t pagefile_length,
                             struct sheet *sheet) {
     uint64_t edition, count, pages, fault;
     size_t at = 0;
     if ((fault = read_field(bytes, length, &at, &edition))) return fault;
-    if (edition != 1) return OUT_OF_LIMITS;
+    if (edition != 1 && edition != 2) return OUT_OF_LIMITS;
     if ((fault = read_field(bytes, length, &at, &sheet->directory))) return fault;
+    sheet->mode = sheet->place = 0;
+    if (edition == 2 && (fault = read_mode(bytes, length, &at, sheet))) return fault;
     if ((fault = read_field(bytes, length, &at, &count))) return fault;
     if (count < 1 || count > MOST_RUNS) return OUT_OF_LIMITS;
     if ((fault = read_runs(bytes, length, &at, count, sheet, &pages))) return fault;
@@ -99,7 +113,7 @@ static uint64_t check_sheet(const uint8_t *bytes, size_t length, uint64_t image_
 }
 
 static struct world world_of(const struct sheet *sheet, const uint8_t *image, size_t image_length) {
-    return (struct world){sheet->rows, sheet->row_numbers, sheet->directory, image, image_length};
+    return (struct world){sheet->rows, sheet->row_numbers, sheet->directory, sheet->mode, sheet->place, image, image_length};
 }
 
 /* ---- the walk */
@@ -107,6 +121,12 @@ static struct world world_of(const struct sheet *sheet, const uint8_t *image, si
 static uint64_t word_at(const uint8_t *bytes) {
     uint64_t word;
     memcpy(&word, bytes, 8);
+    return word;
+}
+
+static uint32_t half_word_at(const uint8_t *bytes) {
+    uint32_t word;
+    memcpy(&word, bytes, 4);
     return word;
 }
 
@@ -129,7 +149,53 @@ static uint64_t page_of_frame(const struct world *w, uint64_t frame) {
 
 static glint_answer refused(uint64_t number, uint64_t entries) { return (glint_answer){number, 0, entries}; }
 
-static glint_answer walk(const struct world *w, uint64_t a) {
+static glint_answer in_frame(const struct world *w, uint64_t frame, uint64_t a, uint64_t entries) {
+    uint64_t page = page_of_frame(w, frame);
+    if (page == NO_PAGE) return refused(FRAME_IN_NO_RUN, entries);
+    return (glint_answer){1, page * PAGE_BYTES + a % PAGE_BYTES, entries};
+}
+
+/* Valid, or in transition. */
+static bool is_followed(uint64_t entry) { return (entry & 1) || (entry >> 10 & 3) == 2; }
+
+static glint_answer walk_plain(const struct world *w, uint64_t a) {
+    if (a >> 32) return refused(NOT_CANONICAL, 0);
+    uint64_t page = page_of_frame(w, w->directory);
+    if (page == NO_PAGE) return refused(FRAME_IN_NO_RUN, 0);
+    uint32_t entry = half_word_at(w->image + page * PAGE_BYTES + (a >> 22) * 4);
+    if (!(entry & 1)) return refused(UPPER_ENTRY_NOT_VALID, 1);
+    if (entry & 128) {
+        if (entry >> 13 & 511) return refused(FRAME_TOO_WIDE, 1);
+        return in_frame(w, (entry >> 22 << 10) | (a >> 12 & 1023), a, 1);
+    }
+    page = page_of_frame(w, entry >> 12);
+    if (page == NO_PAGE) return refused(FRAME_IN_NO_RUN, 1);
+    entry = half_word_at(w->image + page * PAGE_BYTES + (a >> 12 & 1023) * 4);
+    if (!is_followed(entry)) return refused(STATE_NOT_FOLLOWED, 2);
+    return in_frame(w, entry >> 12, a, 2);
+}
+
+static glint_answer walk_pae(const struct world *w, uint64_t a) {
+    uint64_t frame = w->directory, table = GLINT_PLACE_BYTES * w->place, entries = 0;
+    if (a >> 32) return refused(NOT_CANONICAL, 0);
+    for (int low = 30;; low -= 9, table = 0) {
+        uint64_t page = page_of_frame(w, frame);
+        if (page == NO_PAGE) return refused(FRAME_IN_NO_RUN, entries);
+        uint64_t entry = word_at(w->image + page * PAGE_BYTES + table + (a >> low & 511) * 8);
+        entries++;
+        if (!(entry & 1)) {
+            if (low > 12) return refused(UPPER_ENTRY_NOT_VALID, entries);
+            if (!is_followed(entry)) return refused(STATE_NOT_FOLLOWED, entries);
+        } else if (entry >> 48 & 15) {
+            return refused(FRAME_TOO_WIDE, entries);
+        }
+        frame = entry >> 12 & 0xFFFFFFFFF;
+        if (low == 12) return in_frame(w, frame, a, entries);
+        if (low == 21 && (entry & 128)) return in_frame(w, (frame & ~(uint64_t)511) | (a >> 12 & 511), a, entries);
+    }
+}
+
+static glint_answer walk_four_level(const struct world *w, uint64_t a) {
     uint64_t high = a >> 47, frame = w->directory, entries = 0, page;
     if (high != 0 && high != 0x1FFFF) return refused(NOT_CANONICAL, 0);
     for (int low = 39;; low -= 9) {
@@ -147,21 +213,26 @@ static glint_answer walk(const struct world *w, uint64_t a) {
             break;
         }
     }
-    page = page_of_frame(w, frame);
-    if (page == NO_PAGE) return refused(FRAME_IN_NO_RUN, entries);
-    return (glint_answer){1, page * PAGE_BYTES + a % PAGE_BYTES, entries};
+    return in_frame(w, frame, a, entries);
+}
+
+static glint_answer walk(const struct world *w, uint64_t a) {
+    if (w->mode == GLINT_MODE_FOUR_LEVEL) return walk_four_level(w, a);
+    return w->mode == GLINT_MODE_PLAIN ? walk_plain(w, a) : walk_pae(w, a);
 }
 
 uint64_t c_walk_one(const uint64_t *rows, size_t rows_length, const uint8_t *image, size_t image_length,
-                    const uint8_t *pagefile, size_t pagefile_length, uint64_t directory, uint64_t address) {
-    struct world w = {rows, rows_length, directory, image, image_length};
+                    const uint8_t *pagefile, size_t pagefile_length, uint64_t directory, uint64_t mode, uint64_t place,
+                    uint64_t address) {
+    struct world w = {rows, rows_length, directory, mode, place, image, image_length};
     (void)pagefile, (void)pagefile_length;
     return walk(&w, address).offset;
 }
 
 uint64_t c_walk_pages(const uint64_t *rows, size_t rows_length, const uint8_t *image, size_t image_length,
-                      const uint8_t *pagefile, size_t pagefile_length, uint64_t directory, uint64_t start, uint64_t pages) {
-    struct world w = {rows, rows_length, directory, image, image_length};
+                      const uint8_t *pagefile, size_t pagefile_length, uint64_t directory, uint64_t mode, uint64_t place,
+                      uint64_t start, uint64_t pages) {
+    struct world w = {rows, rows_length, directory, mode, place, image, image_length};
     uint64_t sum = 0;
     (void)pagefile, (void)pagefile_length;
     for (uint64_t i = 0; i < pages; i++) sum += walk(&w, start + PAGE_BYTES * i).offset;
@@ -169,8 +240,8 @@ uint64_t c_walk_pages(const uint64_t *rows, size_t rows_length, const uint8_t *i
 }
 
 glint_answer c_resolve_checked(const uint64_t *rows, size_t rows_length, const uint8_t *image, size_t image_length,
-                               uint64_t directory, uint64_t address) {
-    struct world w = {rows, rows_length, directory, image, image_length};
+                               uint64_t directory, uint64_t mode, uint64_t place, uint64_t address) {
+    struct world w = {rows, rows_length, directory, mode, place, image, image_length};
     return walk(&w, address);
 }
 
@@ -267,9 +338,10 @@ static size_t map_pass(const struct world *w, uint64_t start, uint64_t pages, ui
     return put_extent(out, size, at, code, length, first);
 }
 
-static bool is_allowed(uint64_t start, uint64_t pages) {
-    uint64_t half = (uint64_t)1 << 47, bytes = PAGE_BYTES * pages;
+static bool is_allowed(uint64_t mode, uint64_t start, uint64_t pages) {
+    uint64_t half = (uint64_t)1 << 47, top = (uint64_t)1 << 32, bytes = PAGE_BYTES * pages;
     if (start % PAGE_BYTES || pages < 1 || pages > 1 << 20) return false;
+    if (mode != GLINT_MODE_FOUR_LEVEL) return start <= top && bytes <= top - start;
     if (start < -half) return start <= half && bytes <= half - start;
     return bytes - 1 <= UINT64_MAX - start;
 }
@@ -281,7 +353,7 @@ glint_written c_map(const uint8_t *sheet, size_t sheet_length, const uint8_t *im
     uint64_t fault = check_sheet(sheet, sheet_length, image_length, pagefile_length, &s);
     (void)pagefile;
     if (fault) return (glint_written){fault, 0};
-    if (!is_allowed(start, pages)) return (glint_written){BAD_MAP_RANGE, 0};
+    if (!is_allowed(s.mode, start, pages)) return (glint_written){BAD_MAP_RANGE, 0};
     struct world w = world_of(&s, image, image_length);
     size_t length = map_pass(&w, start, pages, out, 0);
     if (length > out_length) return (glint_written){MAP_BUFFER_SHORT, 0};
@@ -307,11 +379,15 @@ static uint64_t count_joined(const uint64_t *starts, const uint64_t *lengths, si
 }
 
 /* Writes what fits, and hands back the length of the whole sheet. */
-static size_t sheet_pass(uint64_t directory, const uint64_t *starts, const uint64_t *lengths, size_t given, uint64_t count,
-                         uint8_t *out, size_t size) {
+static size_t sheet_pass(uint64_t directory, uint64_t mode, uint64_t place, const uint64_t *starts, const uint64_t *lengths,
+                         size_t given, uint64_t count, uint8_t *out, size_t size) {
     uint64_t end = 0;
-    size_t at = put_number(out, size, 0, 1);
+    size_t at = put_number(out, size, 0, mode == GLINT_MODE_FOUR_LEVEL ? 1 : 2);
     at = put_number(out, size, at, directory);
+    if (mode != GLINT_MODE_FOUR_LEVEL) {
+        at = put_number(out, size, at, mode);
+        at = put_number(out, size, at, place);
+    }
     at = put_number(out, size, at, count);
     for (size_t i = 0; i < given;) {
         uint64_t first = starts[i], before = end;
@@ -322,18 +398,19 @@ static size_t sheet_pass(uint64_t directory, const uint64_t *starts, const uint6
     return at;
 }
 
-glint_written c_write_sheet(uint64_t directory, const uint64_t *starts, size_t starts_length, const uint64_t *lengths,
-                            size_t lengths_length, uint8_t *out, size_t out_length) {
+glint_written c_write_sheet(uint64_t directory, uint64_t mode, uint64_t place, const uint64_t *starts, size_t starts_length,
+                            const uint64_t *lengths, size_t lengths_length, uint8_t *out, size_t out_length) {
     uint64_t all = directory;
+    if (mode > GLINT_MODE_PAE || place > (mode == GLINT_MODE_PAE ? 127 : 0)) return (glint_written){OUT_OF_LIMITS, 0};
     if (starts_length != lengths_length || starts_length < 1 || starts_length > GLINT_SHEET_RUNS)
         return (glint_written){OUT_OF_LIMITS, 0};
     for (size_t i = 0; i < starts_length; i++) all |= starts[i] | lengths[i];
     if (all >> 36) return (glint_written){OUT_OF_LIMITS, 0};
     uint64_t count = count_joined(starts, lengths, starts_length);
     if (count == 0) return (glint_written){BAD_RUN, 0};
-    size_t length = sheet_pass(directory, starts, lengths, starts_length, count, out, 0);
+    size_t length = sheet_pass(directory, mode, place, starts, lengths, starts_length, count, out, 0);
     if (length > out_length) return (glint_written){SHEET_BUFFER_SHORT, 0};
-    sheet_pass(directory, starts, lengths, starts_length, count, out, out_length);
+    sheet_pass(directory, mode, place, starts, lengths, starts_length, count, out, out_length);
     return (glint_written){0, length};
 }
 
@@ -353,6 +430,7 @@ glint_answer c_processor_block(const uint8_t *sheet, size_t sheet_length, const 
     uint64_t fault = check_sheet(sheet, sheet_length, image_length, pagefile_length, &s);
     (void)pagefile;
     if (fault) return refused(fault, 0);
+    if (s.mode != GLINT_MODE_FOUR_LEVEL) return refused(MODE_NOT_SERVED, 0);
     for (uint64_t page = from & ~(uint64_t)(PAGE_BYTES - 1); page < image_length; page += PAGE_BYTES)
         for (uint64_t o = page < from ? (from + 7) & ~(uint64_t)7 : page; o <= page + 0xE28; o += 8) {
             if (!words_fit(image + o)) continue;
@@ -399,6 +477,7 @@ glint_written c_process_list(const uint8_t *sheet, size_t sheet_length, const ui
     uint64_t fault = check_sheet(sheet, sheet_length, image_length, pagefile_length, &s);
     (void)pagefile;
     if (fault) return (glint_written){fault, 0};
+    if (s.mode != GLINT_MODE_FOUR_LEVEL) return (glint_written){MODE_NOT_SERVED, 0};
     struct world w = world_of(&s, image, image_length);
     if ((fault = follow(&w, head, nodes, out_length, &count))) return (glint_written){fault, 0};
     memcpy(out, nodes, count * sizeof *nodes);

@@ -8,14 +8,18 @@
 
 /* The walk on a parsed case, as the crate bench_walk exports it. */
 uint64_t bench_walk_pages(const uint64_t *rows, size_t rows_length, const uint8_t *image, size_t image_length,
-                          const uint8_t *pagefile, size_t pagefile_length, uint64_t directory, uint64_t start, uint64_t pages);
+                          const uint8_t *pagefile, size_t pagefile_length, uint64_t directory, uint64_t mode, uint64_t place,
+                          uint64_t start, uint64_t pages);
 uint64_t bench_walk_one(const uint64_t *rows, size_t rows_length, const uint8_t *image, size_t image_length,
-                        const uint8_t *pagefile, size_t pagefile_length, uint64_t directory, uint64_t address);
+                        const uint8_t *pagefile, size_t pagefile_length, uint64_t directory, uint64_t mode, uint64_t place,
+                        uint64_t address);
 
 uint64_t c_walk_pages(const uint64_t *rows, size_t rows_length, const uint8_t *image, size_t image_length,
-                      const uint8_t *pagefile, size_t pagefile_length, uint64_t directory, uint64_t start, uint64_t pages);
+                      const uint8_t *pagefile, size_t pagefile_length, uint64_t directory, uint64_t mode, uint64_t place,
+                      uint64_t start, uint64_t pages);
 uint64_t c_walk_one(const uint64_t *rows, size_t rows_length, const uint8_t *image, size_t image_length,
-                    const uint8_t *pagefile, size_t pagefile_length, uint64_t directory, uint64_t address);
+                    const uint8_t *pagefile, size_t pagefile_length, uint64_t directory, uint64_t mode, uint64_t place,
+                    uint64_t address);
 
 glint_answer c_resolve(const uint8_t *sheet, size_t sheet_length, const uint8_t *image, size_t image_length,
                        const uint8_t *pagefile, size_t pagefile_length, uint64_t address);
@@ -27,8 +31,8 @@ glint_time_answer c_read_time(const uint8_t *sheet, size_t sheet_length, const u
 glint_written c_map(const uint8_t *sheet, size_t sheet_length, const uint8_t *image, size_t image_length,
                     const uint8_t *pagefile, size_t pagefile_length, uint64_t start, uint64_t pages,
                     uint8_t *out, size_t out_length);
-glint_written c_write_sheet(uint64_t directory, const uint64_t *starts, size_t starts_length, const uint64_t *lengths,
-                            size_t lengths_length, uint8_t *out, size_t out_length);
+glint_written c_write_sheet(uint64_t directory, uint64_t mode, uint64_t place, const uint64_t *starts, size_t starts_length,
+                            const uint64_t *lengths, size_t lengths_length, uint8_t *out, size_t out_length);
 glint_answer c_processor_block(const uint8_t *sheet, size_t sheet_length, const uint8_t *image, size_t image_length,
                                const uint8_t *pagefile, size_t pagefile_length, uint64_t from);
 glint_written c_process_list(const uint8_t *sheet, size_t sheet_length, const uint8_t *image, size_t image_length,
@@ -36,8 +40,8 @@ glint_written c_process_list(const uint8_t *sheet, size_t sheet_length, const ui
                              uint64_t *out, size_t out_length);
 glint_written c_pool_headers(const uint8_t *image, size_t image_length, uint64_t *out, size_t out_length);
 
-/* The address call that takes the sheet as checked: its rows and directory are handed in. */
+/* The address call that takes the sheet as checked: its rows and address space are handed in. */
 glint_answer c_resolve_checked(const uint64_t *rows, size_t rows_length, const uint8_t *image, size_t image_length,
-                               uint64_t directory, uint64_t address);
+                               uint64_t directory, uint64_t mode, uint64_t place, uint64_t address);
 
 #endif

@@ -39,6 +39,7 @@ static uint64_t unexpected; /* answers of another number than the work has */
 
 #define CASE(c) (c)->sheet, (c)->sheet_length, (c)->image, (c)->image_length, no_pagefile, 0
 #define PARSED(c) (c)->rows, 3 * (c)->run_count, (c)->image, (c)->image_length
+#define SPACE(c) 0, (c)->mode, (c)->place
 
 /* ---- the work; each hands back a sum of its answers */
 
@@ -49,13 +50,13 @@ static uint64_t sum_of(glint_answer answer, uint64_t number) {
 
 static uint64_t walk_consecutive(const struct calls *call, const struct bench_case *c, uint8_t *out) {
     (void)out;
-    return call->walk_pages(PARSED(c), no_pagefile, 0, 0, 0, MAPPED_PAGES);
+    return call->walk_pages(PARSED(c), no_pagefile, 0, SPACE(c), 0, MAPPED_PAGES);
 }
 
 static uint64_t walk_random(const struct calls *call, const struct bench_case *c, uint8_t *out) {
     uint64_t sum = 0;
     (void)out;
-    for (int i = 0; i < ADDRESSES; i++) sum += call->walk_one(PARSED(c), no_pagefile, 0, 0, random_addresses[i]);
+    for (int i = 0; i < ADDRESSES; i++) sum += call->walk_one(PARSED(c), no_pagefile, 0, SPACE(c), random_addresses[i]);
     return sum;
 }
 
@@ -76,7 +77,7 @@ static uint64_t resolve_random(const struct calls *call, const struct bench_case
 static uint64_t resolve_checked(const struct bench_case *c, uint8_t *out) {
     uint64_t sum = 0;
     (void)out;
-    for (int i = 0; i < ADDRESSES; i++) sum += sum_of(c_resolve_checked(PARSED(c), 0, random_addresses[i]), 1);
+    for (int i = 0; i < ADDRESSES; i++) sum += sum_of(c_resolve_checked(PARSED(c), SPACE(c), random_addresses[i]), 1);
     return sum;
 }
 
@@ -119,7 +120,7 @@ static uint64_t map_all(const struct calls *call, const struct bench_case *c, ui
 static uint64_t write_sheets(const struct calls *call, const struct bench_case *c, uint8_t *out) {
     uint64_t sum = 0;
     for (uint64_t i = 0; i < SHEETS; i++) {
-        glint_written sheet = call->write_sheet(i, starts, c->run_count, lengths, c->run_count, out, OUT_BYTES);
+        glint_written sheet = call->write_sheet(i, 0, 0, starts, c->run_count, lengths, c->run_count, out, OUT_BYTES);
         unexpected += sheet.number != 0;
         sum += sheet.length;
     }
@@ -171,6 +172,9 @@ struct work {
     uint64_t (*other)(const struct bench_case *c, uint8_t *out); /* the C side, where it is not `run` */
 };
 
+/* The first of these are done in the 32-bit modes too. */
+enum { WORKS_OF_EVERY_MODE = 4 };
+
 static const struct work walk_works[] = {
     {"walk on a parsed case, consecutive, one call, a page", MAPPED_PAGES, walk_consecutive, NULL, NULL},
     {"walk on a parsed case, random, a call", ADDRESSES, walk_random, NULL, NULL},
@@ -200,7 +204,7 @@ static const struct {
     {POOLS, {"pool headers, 256 MiB of dense pools, a page", SEARCHED_PAGES, search_pool, copy_image, NULL}},
 };
 
-static const size_t run_counts[] = {1, 2, 8, 32, 210, MOST_RUNS};
+static const size_t run_counts[] = {1, 2, 8, 32, 210, MOST_RUNS}, run_counts_of_32_bits[] = {1, 32};
 
 static double seconds(void) {
     struct timespec t;
@@ -235,10 +239,18 @@ static void measure(const struct work *work, const struct bench_case *c, int tur
         exit(1);
     }
     double ns = 1e9 / work->units;
-    printf("%-56s %4zu %10.1f %10.1f %7.2f", work->name, c->run_count, best[0] * ns, best[1] * ns, best[0] / best[1]);
+    printf("%-56s %4d %4zu %10.1f %10.1f %7.2f", work->name, (int)c->mode, c->run_count, best[0] * ns, best[1] * ns,
+           best[0] / best[1]);
     if (work->copy) printf(" %10.1f %11.2f", best[2] * ns, best[0] / best[2]);
     printf("\n");
     fflush(stdout);
+}
+
+/* Prints the rows of a mode, for an image in so many runs. */
+static void measure_walks(struct bench_case *c, uint8_t *image, size_t run_count, uint64_t mode, size_t works) {
+    make_walk_case(c, image, run_count, mode);
+    for (int i = 0; i < ADDRESSES; i++) random_addresses[i] = next_random() % ((uint64_t)MAPPED_PAGES * PAGE_BYTES);
+    for (size_t i = 0; i < works; i++) measure(&walk_works[i], c, WALK_TURNS);
 }
 
 int main(void) {
@@ -250,12 +262,14 @@ int main(void) {
         if (!image || !outs[side]) return 1;
         memset(outs[side], 0, bytes);
     }
-    printf("%-56s %4s %10s %10s %7s %10s %11s\n", "", "runs", "ours, ns", "C, ns", "ours/C", "memcpy, ns", "ours/memcpy");
-    for (size_t k = 0; k < sizeof run_counts / sizeof *run_counts; k++) {
-        make_walk_case(&c, image, run_counts[k]);
-        for (int i = 0; i < ADDRESSES; i++) random_addresses[i] = next_random() % ((uint64_t)MAPPED_PAGES * PAGE_BYTES);
-        for (size_t i = 0; i < sizeof walk_works / sizeof *walk_works; i++) measure(&walk_works[i], &c, WALK_TURNS);
-    }
+    printf("%-56s %4s %4s %10s %10s %7s %10s %11s\n", "", "mode", "runs", "ours, ns", "C, ns", "ours/C", "memcpy, ns",
+           "ours/memcpy");
+    for (size_t k = 0; k < sizeof run_counts / sizeof *run_counts; k++)
+        measure_walks(&c, image, run_counts[k], GLINT_MODE_FOUR_LEVEL, sizeof walk_works / sizeof *walk_works);
+    for (uint64_t mode = GLINT_MODE_PLAIN; mode <= GLINT_MODE_PAE; mode++)
+        for (size_t k = 0; k < sizeof run_counts_of_32_bits / sizeof *run_counts_of_32_bits; k++)
+            measure_walks(&c, image, run_counts_of_32_bits[k], mode, WORKS_OF_EVERY_MODE);
+    c.mode = GLINT_MODE_FOUR_LEVEL;
     c.run_count = GLINT_SHEET_RUNS;
     make_runs_apart(starts, lengths, c.run_count);
     measure(&write_work, &c, WALK_TURNS);
