@@ -40,7 +40,7 @@ member-stretch c low (suc n) = rw (member-stretch c (suc low) n) (go (test c low
 
 -- the codes above the two stretches
 abbrev singles : List ℕ
-singles = 31 ∷ 34 ∷ []
+singles = 31 ∷ 33 ∷ 34 ∷ []
 
 -- 1 to 3, 21 to 29, and the others one by one
 stretches : (c : ℕ) → isCode c ≡ ((leb 1 c && ltb c 4) || ((leb 21 c && ltb c 30) || member c singles))
@@ -51,10 +51,10 @@ stretches c =
 
 -- 30 and below is none of the others, nor is 35 and above
 below-singles : (c : ℕ) → c < 31 → member c singles ≡ false
-below-singles c h = rw (ne-eqb c 31 (λ e. omega (arith, e)), ne-eqb c 34 (λ e. omega (arith, e)))
+below-singles c h = rw (ne-eqb c 31 (λ e. omega (arith, e)), ne-eqb c 33 (λ e. omega (arith, e)), ne-eqb c 34 (λ e. omega (arith, e)))
 
 above-singles : (c : ℕ) → 34 < c → member c singles ≡ false
-above-singles c h = rw (ne-eqb c 31 (λ e. omega (arith, e)), ne-eqb c 34 (λ e. omega (arith, e)))
+above-singles c h = rw (ne-eqb c 31 (λ e. omega (arith, e)), ne-eqb c 33 (λ e. omega (arith, e)), ne-eqb c 34 (λ e. omega (arith, e)))
 
 module _ (c : ℕ) where
   pub code-zero : c < 1 → false ≡ isCode c
@@ -76,8 +76,11 @@ module _ (c : ℕ) where
   pub code-first-single : c ≡ 31 → true ≡ isCode c
   code-first-single h = rw (eq-eqb c 31 h) at (code-single (omega (arith, h)))
 
-  pub code-last-single : 29 < c → (c ≡ 31 → ⊥) → eqb c 34 ≡ isCode c
-  code-last-single h n = sym (or-false (eqb c 34)) ∙ (rw (ne-eqb c 31 n) at (code-single h))
+  pub code-second-single : c ≡ 33 → true ≡ isCode c
+  code-second-single h = rw (ne-eqb c 31 (λ e. omega (arith, e, h)), eq-eqb c 33 h) at (code-single (omega (arith, h)))
+
+  pub code-last-single : 29 < c → (c ≡ 31 → ⊥) → (c ≡ 33 → ⊥) → eqb c 34 ≡ isCode c
+  code-last-single h n k = sym (or-false (eqb c 34)) ∙ (rw (ne-eqb c 31 n, ne-eqb c 33 k) at (code-single h))
     where
       or-false : (b : Bool) → (b || false) ≡ b
       or-false true = refl

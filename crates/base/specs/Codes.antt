@@ -15,6 +15,7 @@ use Rattle.base.specs.declared.Refusal.the-variants.{
   PrototypeChainTooLong,
   PrototypeUnaligned,
   PageInStore,
+  ReservedBitSet,
   StateNotFollowed,
 }
 
@@ -34,6 +35,7 @@ codes =
     ∷ refusalNumber PrototypeChainTooLong
     ∷ refusalNumber PrototypeUnaligned
     ∷ refusalNumber PageInStore
+    ∷ refusalNumber ReservedBitSet
     ∷ refusalNumber StateNotFollowed
     ∷ []
 

@@ -107,14 +107,14 @@ row-coded l e h = go (not (valid e)) (l .region) (tooWide e) (bit e 7)
 levels-coded : (m : PagingMode) (n : ℕ) → ReservedCoded (levelOf m n .reserved)
 unfolding levelOf isCode
 levels-coded FourLevel zero = tt
-levels-coded FourLevel (suc zero) = tt
-levels-coded FourLevel (suc (suc zero)) = tt
-levels-coded FourLevel (suc (suc (suc n))) = tt
+levels-coded FourLevel (suc zero) = refl
+levels-coded FourLevel (suc (suc zero)) = refl
+levels-coded FourLevel (suc (suc (suc n))) = refl
 levels-coded Plain zero = tt
 levels-coded Plain (suc n) = refl
 levels-coded (Pae place) zero = tt
-levels-coded (Pae place) (suc zero) = tt
-levels-coded (Pae place) (suc (suc n)) = tt
+levels-coded (Pae place) (suc zero) = refl
+levels-coded (Pae place) (suc (suc n)) = refl
 
 pub upper-coded : (m : PagingMode) (n e : ℕ) → UpperCoded (upperOf (levelOf m n) e)
 upper-coded m n e = row-coded (levelOf m n) e (levels-coded m n)

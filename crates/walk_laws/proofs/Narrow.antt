@@ -8,7 +8,7 @@ use lib.Dec.{eqb}
 use lib.ListN.{length, length-append}
 use Rattle.base.specs.Notation.{if_then_else_, bits, bit}
 use Rattle.base.specs.declared.Refusal.{Refusal}
-use Rattle.base.specs.declared.Refusal.the-variants.{NotCanonical, UpperEntryNotValid, FrameInNoRun, FrameTooWide, StateNotFollowed}
+use Rattle.base.specs.declared.Refusal.the-variants.{NotCanonical, UpperEntryNotValid, FrameInNoRun, FrameTooWide, ReservedBitSet, StateNotFollowed}
 use Rattle.entry.specs.Addresses.{reachableIn}
 use Rattle.entry.specs.Entry.{levelsBelow, levelOf, topOffset, valid, tooWide, frameOf, largeOf, hasReserved, reservedOf, upperOf, validOf, transition, transitionOf, narrowLeafOf, leafIn}
 use Rattle.entry.specs.declared.Frame.{Frame}
@@ -37,130 +37,140 @@ use Rattle.walk.specs.declared.Place.{Place}
 use Rattle.walk.specs.declared.Place.the-variants.{Image, Pagefile, Zeros, Refused}
 use Rattle.walk.proofs.Count.{walk-count}
 
+-- PAE: the plain mode has no reserved bits that are 33
+abbrev pub IsPae : PagingMode → Type 0
+IsPae FourLevel = ⊥
+IsPae Plain = ⊥
+IsPae (Pae place) = Unit {0}
+
 -- the refusals of an address of the address space
-pub data NarrowRefusal : Refusal → Type 0 where
-  not-valid : NarrowRefusal UpperEntryNotValid
-  in-no-run : NarrowRefusal FrameInNoRun
-  too-wide : NarrowRefusal FrameTooWide
-  not-followed : NarrowRefusal StateNotFollowed
+pub data NarrowRefusal (m : PagingMode) : Refusal → Type 0 where
+  not-valid : NarrowRefusal m UpperEntryNotValid
+  in-no-run : NarrowRefusal m FrameInNoRun
+  too-wide : NarrowRefusal m FrameTooWide
+  reserved-set : IsPae m → NarrowRefusal m ReservedBitSet
+  not-followed : NarrowRefusal m StateNotFollowed
 
 -- an entry settles a frame or one of these
-abbrev NarrowEntry : EntryPlace → Type 0
-NarrowEntry (InFrame f s) = Unit {0}
-NarrowEntry (InPagefile p) = ⊥
-NarrowEntry ZeroPage = ⊥
-NarrowEntry (entry-place.Refused r) = NarrowRefusal r
+abbrev NarrowEntry : PagingMode → EntryPlace → Type 0
+NarrowEntry m (InFrame f s) = Unit {0}
+NarrowEntry m (InPagefile p) = ⊥
+NarrowEntry m ZeroPage = ⊥
+NarrowEntry m (entry-place.Refused r) = NarrowRefusal m r
 
-abbrev NarrowLeaf : Leaf → Type 0
-NarrowLeaf (Settled r) = NarrowEntry r
-NarrowLeaf (Prototype t) = ⊥
-NarrowLeaf NeedsRegion = ⊥
+abbrev NarrowLeaf : PagingMode → Leaf → Type 0
+NarrowLeaf m (Settled r) = NarrowEntry m r
+NarrowLeaf m (Prototype t) = ⊥
+NarrowLeaf m NeedsRegion = ⊥
 
-abbrev NarrowUpper : Upper → Type 0
-NarrowUpper (Table f) = Unit {0}
-NarrowUpper (LargePage f s) = Unit {0}
-NarrowUpper (upper.Refused r) = NarrowRefusal r
-NarrowUpper UpperNeedsRegion = ⊥
+abbrev NarrowUpper : PagingMode → Upper → Type 0
+NarrowUpper m (Table f) = Unit {0}
+NarrowUpper m (LargePage f s) = Unit {0}
+NarrowUpper m (upper.Refused r) = NarrowRefusal m r
+NarrowUpper m UpperNeedsRegion = ⊥
 
 -- 1, or one of these, or 20
-pub data NarrowPlace : Place → Type 0 where
-  in-image : (o : ℕ) → NarrowPlace (Image o)
-  refused : {r : Refusal} → NarrowRefusal r → NarrowPlace (Refused r)
-  past-top : NarrowPlace (Refused NotCanonical)
+pub data NarrowPlace (m : PagingMode) : Place → Type 0 where
+  in-image : (o : ℕ) → NarrowPlace m (Image o)
+  refused : {r : Refusal} → NarrowRefusal m r → NarrowPlace m (Refused r)
+  past-top : NarrowPlace m (Refused NotCanonical)
 
 -- ---- entries
 
-valid-narrow : (e : ℕ) → NarrowEntry (validOf e)
-valid-narrow e = go (tooWide e)
+valid-narrow : (m : PagingMode) (e : ℕ) → NarrowEntry m (validOf e)
+valid-narrow m e = go (tooWide e)
   where
-    go : (b : Bool) → NarrowEntry (if b then entry-place.Refused FrameTooWide else InFrame (frameOf e) Page4K)
+    go : (b : Bool) → NarrowEntry m (if b then entry-place.Refused FrameTooWide else InFrame (frameOf e) Page4K)
     go true = too-wide
     go false = tt
 
-last-narrow : (e : ℕ) → NarrowLeaf (narrowLeafOf e)
+last-narrow : (m : PagingMode) (e : ℕ) → NarrowLeaf m (narrowLeafOf e)
 unfolding narrowLeafOf
-last-narrow e = go (valid e) (transition e)
+last-narrow m e = go (valid e) (transition e)
   where
-    go : (a b : Bool) → NarrowLeaf (if a then Settled (validOf e) else if b then Settled (transitionOf e) else Settled (entry-place.Refused StateNotFollowed))
-    go true b = valid-narrow e
+    go : (a b : Bool) → NarrowLeaf m (if a then Settled (validOf e) else if b then Settled (transitionOf e) else Settled (entry-place.Refused StateNotFollowed))
+    go true b = valid-narrow m e
     go false true = tt
     go false false = not-followed
 
-leaf-narrow : (m : PagingMode) (e : ℕ) → Narrow m → NarrowLeaf (leafIn m e)
+leaf-narrow : (m : PagingMode) (e : ℕ) → Narrow m → NarrowLeaf m (leafIn m e)
 unfolding leafIn
 leaf-narrow FourLevel e h = absurd h
-leaf-narrow Plain e h = last-narrow e
-leaf-narrow (Pae place) e h = last-narrow e
+leaf-narrow Plain e h = last-narrow Plain e
+leaf-narrow (Pae place) e h = last-narrow (Pae place) e
 
--- a level of a 32-bit profile: no region record, and reserved bits that are ignored or 24
-pub record NarrowLevel (l : Level) : Type 0 where
+-- a level of a 32-bit profile: no region record, and reserved bits that are ignored, 24 or in PAE 33
+pub record NarrowLevel (m : PagingMode) (l : Level) : Type 0 where
   pub no-region : l .region ≡ false
-  pub reserved : (u : Upper) (b : Bool) → NarrowUpper u → NarrowUpper (reservedOf (l .reserved) b u)
+  pub reserved : (u : Upper) (b : Bool) → NarrowUpper m u → NarrowUpper m (reservedOf (l .reserved) b u)
 
-ignored-narrow : (u : Upper) (b : Bool) → NarrowUpper u → NarrowUpper (reservedOf Ignored b u)
-ignored-narrow u b h = h
+ignored-narrow : (m : PagingMode) (u : Upper) (b : Bool) → NarrowUpper m u → NarrowUpper m (reservedOf Ignored b u)
+ignored-narrow m u b h = h
 
-wide-narrow : (u : Upper) (b : Bool) → NarrowUpper u → NarrowUpper (reservedOf (reserved-bits.Refused FrameTooWide) b u)
-wide-narrow u true h = too-wide
-wide-narrow u false h = h
+refused-narrow : (m : PagingMode) (r : Refusal) → NarrowRefusal m r → (u : Upper) (b : Bool) → NarrowUpper m u → NarrowUpper m (reservedOf (reserved-bits.Refused r) b u)
+refused-narrow m r q u true h = q
+refused-narrow m r q u false h = h
 
-level-narrow : (m : PagingMode) (n : ℕ) → Narrow m → NarrowLevel (levelOf m n)
+level-narrow : (m : PagingMode) (n : ℕ) → Narrow m → NarrowLevel m (levelOf m n)
 unfolding levelOf
 level-narrow FourLevel n h = absurd h
-level-narrow Plain zero h = record { no-region = refl; reserved = ignored-narrow }
-level-narrow Plain (suc n) h = record { no-region = refl; reserved = wide-narrow }
-level-narrow (Pae place) zero h = record { no-region = refl; reserved = ignored-narrow }
-level-narrow (Pae place) (suc zero) h = record { no-region = refl; reserved = ignored-narrow }
-level-narrow (Pae place) (suc (suc n)) h = record { no-region = refl; reserved = ignored-narrow }
+level-narrow Plain zero h = record { no-region = refl; reserved = ignored-narrow Plain }
+level-narrow Plain (suc n) h = record { no-region = refl; reserved = refused-narrow Plain FrameTooWide too-wide }
+level-narrow (Pae place) zero h = record { no-region = refl; reserved = ignored-narrow (Pae place) }
+level-narrow (Pae place) (suc zero) h = record { no-region = refl; reserved = refused-narrow (Pae place) ReservedBitSet (reserved-set tt) }
+level-narrow (Pae place) (suc (suc n)) h = record { no-region = refl; reserved = refused-narrow (Pae place) ReservedBitSet (reserved-set tt) }
 
-large-narrow : (s : PageSize) (f : Frame) → NarrowUpper (largeOf s f)
-large-narrow Page4K f = tt
-large-narrow Page2M f = tt
-large-narrow Page4M f = tt
-large-narrow Page1G f = tt
+large-narrow : (m : PagingMode) (s : PageSize) (f : Frame) → NarrowUpper m (largeOf s f)
+large-narrow m Page4K f = tt
+large-narrow m Page2M f = tt
+large-narrow m Page4M f = tt
+large-narrow m Page1G f = tt
 
-upper-narrow : (l : Level) (e : ℕ) → NarrowLevel l → NarrowUpper (upperOf l e)
+upper-narrow : (m : PagingMode) (l : Level) (e : ℕ) → NarrowLevel m l → NarrowUpper m (upperOf l e)
 unfolding upperOf
-upper-narrow l e q = rw (q .no-region) (go (not (valid e)) (tooWide e) (bit e 7))
+upper-narrow m l e q = rw (q .no-region) (go (not (valid e)) (tooWide e) (bit e 7))
   where
     go : (a b c : Bool)
-        → NarrowUpper (
+        → NarrowUpper m (
         if a then upper.Refused UpperEntryNotValid else
         if b then upper.Refused FrameTooWide else
         if c then reservedOf (l .reserved) (hasReserved (l .large) e) (largeOf (l .large) (frameOf e)) else
         Table (frameOf e))
     go true b c = not-valid
     go false true c = too-wide
-    go false false true = q .reserved (largeOf (l .large) (frameOf e)) (hasReserved (l .large) e) (large-narrow (l .large) (frameOf e))
+    go false false true = q .reserved (largeOf (l .large) (frameOf e)) (hasReserved (l .large) e) (large-narrow m (l .large) (frameOf e))
     go false false false = tt
 
 -- ---- the descent
 
-entry-narrow : (image : List ℕ) (l : Level) (o a : ℕ) (next : ℕ → Trail) (t : ImagePage) → ((e : ℕ) → NarrowLeaf (next e .leaf)) → NarrowLeaf (entryOf image l o a next t .leaf)
-entry-narrow image l o a next Absent h = in-no-run
-entry-narrow image l o a next (Page p) h = h (littleAt (l .bytes) image (entryOffset l p o a))
+entry-narrow : (m : PagingMode) (image : List ℕ) (l : Level) (o a : ℕ) (next : ℕ → Trail) (t : ImagePage) → ((e : ℕ) → NarrowLeaf m (next e .leaf)) → NarrowLeaf m (entryOf image l o a next t .leaf)
+entry-narrow m image l o a next Absent h = in-no-run
+entry-narrow m image l o a next (Page p) h = h (littleAt (l .bytes) image (entryOffset l p o a))
 
-step-narrow : (u : Upper) (next : Frame → Trail) → NarrowUpper u → ((f : Frame) → NarrowLeaf (next f .leaf)) → NarrowLeaf (upperStep next u .leaf)
-step-narrow (Table f) next t h = h f
-step-narrow (LargePage f s) next t h = tt
-step-narrow (upper.Refused r) next t h = t
-step-narrow UpperNeedsRegion next t h = absurd t
+step-narrow : (m : PagingMode) (u : Upper) (next : Frame → Trail) → NarrowUpper m u → ((f : Frame) → NarrowLeaf m (next f .leaf)) → NarrowLeaf m (upperStep next u .leaf)
+step-narrow m (Table f) next t h = h f
+step-narrow m (LargePage f s) next t h = tt
+step-narrow m (upper.Refused r) next t h = t
+step-narrow m UpperNeedsRegion next t h = absurd t
 
-descend-narrow : (m : PagingMode) → Narrow m → (n : ℕ) (page : Frame → ImagePage) (image : List ℕ) (o : ℕ) (t : ImagePage) (a : ℕ) → NarrowLeaf (descendOf m n page image o t a .leaf)
+descend-narrow : (m : PagingMode) → Narrow m → (n : ℕ) (page : Frame → ImagePage) (image : List ℕ) (o : ℕ) (t : ImagePage) (a : ℕ) → NarrowLeaf m (descendOf m n page image o t a .leaf)
 unfolding descendOf
-descend-narrow m h zero page image o t a = entry-narrow image (levelOf m 0) o a (λ e. halt (leafIn m e)) t (λ e. leaf-narrow m e h)
+descend-narrow m h zero page image o t a = entry-narrow m image (levelOf m 0) o a (λ e. halt (leafIn m e)) t (λ e. leaf-narrow m e h)
 descend-narrow m h (suc n) page image o t a =
-    entry-narrow image (levelOf m (suc n)) o a (λ e. upperStep (λ f. descendOf m n page image 0 (page f) a) (upperOf (levelOf m (suc n)) e)) t
-    (λ e. step-narrow (upperOf (levelOf m (suc n)) e) (λ f. descendOf m n page image 0 (page f) a) (upper-narrow (levelOf m (suc n)) e (level-narrow m (suc n) h)) (λ f. descend-narrow m h n page image 0 (page f) a))
+    entry-narrow m image (levelOf m (suc n)) o a (λ e. upperStep (λ f. descendOf m n page image 0 (page f) a) (upperOf (levelOf m (suc n)) e)) t
+    (λ e. step-narrow m (upperOf (levelOf m (suc n)) e) (λ f. descendOf m n page image 0 (page f) a) (upper-narrow m (levelOf m (suc n)) e (level-narrow m (suc n) h)) (λ f. descend-narrow m h n page image 0 (page f) a))
 
 -- ---- the walk
 
 module _ (w : World) (h : Narrow (w .space .mode)) where
-  page-narrow : (a : ℕ) (x : ImagePage) → NarrowPlace (inPage a x)
+  abbrev m : PagingMode
+  m = w .space .mode
+
+  page-narrow : (a : ℕ) (x : ImagePage) → NarrowPlace m (inPage a x)
   page-narrow a Absent = refused in-no-run
   page-narrow a (Page p) = in-image _
 
-  settle-narrow : (a : ℕ) (r : EntryPlace) → NarrowEntry r → NarrowPlace (settled w a r)
+  settle-narrow : (a : ℕ) (r : EntryPlace) → NarrowEntry m r → NarrowPlace m (settled w a r)
   unfolding settleOf
   settle-narrow a (InFrame f s) t = page-narrow a (w .page (frameIn f s a))
   settle-narrow a (InPagefile p) t = absurd t
@@ -168,27 +178,27 @@ module _ (w : World) (h : Narrow (w .space .mode)) where
   settle-narrow a (entry-place.Refused r) t = refused t
 
   -- a descent ends by itself: nothing is read after it
-  leaf-place : (next : Next) (a : ℕ) (l : Leaf) → NarrowLeaf l → NarrowPlace (leafStep w next a l .place) × (leafStep w next a l .trace ≡ [])
+  leaf-place : (next : Next) (a : ℕ) (l : Leaf) → NarrowLeaf m l → NarrowPlace m (leafStep w next a l .place) × (leafStep w next a l .trace ≡ [])
   leaf-place next a (Settled r) t = (settle-narrow a r t, refl)
   leaf-place next a (Prototype x) t = absurd t
   leaf-place next a NeedsRegion t = absurd t
 
-  body-narrow : (next : Next) (a : ℕ) → NarrowPlace (bodyOf w next a .place) × (length (bodyOf w next a .trace) ≤ suc (levelsBelow (w .space .mode)))
+  body-narrow : (next : Next) (a : ℕ) → NarrowPlace m (bodyOf w next a .place) × (length (bodyOf w next a .trace) ≤ suc (levelsBelow (w .space .mode)))
   body-narrow next a = go (reachableIn (w .space .mode) a)
     where
       d : Trail
       d = descended w a
 
-      found : NarrowPlace (leafStep w next a (d .leaf) .place) × (leafStep w next a (d .leaf) .trace ≡ [])
-      found = let m = w .space .mode in leaf-place next a (d .leaf) (descend-narrow m h (levelsBelow m) (w .page) (w .image) (topOffset m) (w .page (w .space .directory)) a)
+      found : NarrowPlace m (leafStep w next a (d .leaf) .place) × (leafStep w next a (d .leaf) .trace ≡ [])
+      found = leaf-place next a (d .leaf) (descend-narrow m h (levelsBelow m) (w .page) (w .image) (topOffset m) (w .page (w .space .directory)) a)
 
-      go : (c : Bool) → NarrowPlace ((if c then noting (d .trace) (leafStep w next a (d .leaf)) else stop (Refused NotCanonical)) .place)
+      go : (c : Bool) → NarrowPlace m ((if c then noting (d .trace) (leafStep w next a (d .leaf)) else stop (Refused NotCanonical)) .place)
           × (length ((if c then noting (d .trace) (leafStep w next a (d .leaf)) else stop (Refused NotCanonical)) .trace) ≤ suc (levelsBelow (w .space .mode)))
       go true = (found .0, rw (found .1) (simp length-append (omega (arith, walk-count w a))))
       go false = (past-top, omega arith)
 
   -- the answers of a 32-bit profile, and the entries read: one a level
-  pub narrow-walk : (n a : ℕ) → NarrowPlace (resolveOf n w a .place) × (length (resolveOf n w a .trace) ≤ suc (levelsBelow (w .space .mode)))
+  pub narrow-walk : (n a : ℕ) → NarrowPlace (w .space .mode) (resolveOf n w a .place) × (length (resolveOf n w a .trace) ≤ suc (levelsBelow (w .space .mode)))
   unfolding resolveOf
   narrow-walk zero a = body-narrow noMore a
   narrow-walk (suc n) a = body-narrow (deeper (resolveOf n w)) a

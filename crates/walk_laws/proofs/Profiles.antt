@@ -15,20 +15,20 @@ use Rattle.words.specs.Words.{littleAt}
 use Rattle.walk.specs.Walk.{World, worldOf, frameIn, settleOf, descendOf, resolveOf, numberOf, offsetOf}
 
 -- the 8 bytes of a word, and the 4 of a half
-word : ℕ → List ℕ
+unfoldable pub word : ℕ → List ℕ
 word x = x % 256 ∷ x / 2 ^ 8 % 256 ∷ x / 2 ^ 16 % 256 ∷ x / 2 ^ 24 % 256 ∷ x / 2 ^ 32 % 256 ∷ x / 2 ^ 40 % 256 ∷ x / 2 ^ 48 % 256 ∷ x / 2 ^ 56 ∷ []
 
 half : ℕ → List ℕ
 half x = x % 256 ∷ x / 2 ^ 8 % 256 ∷ x / 2 ^ 16 % 256 ∷ x / 2 ^ 24 ∷ []
 
-run : ℕ → Run
+unfoldable pub run : ℕ → Run
 run first = record { first = frame first; pages = 1 }
 
-world : PagingMode → ℕ → List Run → List ℕ → World
+unfoldable pub world : PagingMode → ℕ → List Run → List ℕ → World
 world mode directory runs image = worldOf (record { space = record { directory = frame directory; mode = mode }; runs = runs }) image []
 
 -- number, offset and entries read
-walked : World → ℕ → ℕ × (ℕ × ℕ)
+unfoldable pub walked : World → ℕ → ℕ × (ℕ × ℕ)
 walked w a = let v = resolveOf 3 w a in (numberOf (v .place), (offsetOf (v .place), length (v .trace)))
 
 -- ---- document 000, section 3.1: frames 0x73F1, 0x7600, 0xDA6B and 0x11DF3 are the pages of the image

@@ -1,5 +1,4 @@
--- By the page: the bits between 13 and its base, of which a page of 4 KiB has none.
-use Rattle.entry.proofs.Reserved.{none-in-4k}
+-- By the page: bit 7 where it makes none, else the bits between 13 and its base.
 use Rattle.entry.specs.Entry.{hasReserved}
 use borrow.Author.Needs.{needs}
 use Rattle.entry.proofs.has_reserved.Statement.{statement}
@@ -18,7 +17,8 @@ enum-told-4 : tie.Need-enum-told-4
 enum-told-4 c = search needs
 
 returns : tie.Need-returns
-returns c = rw (c .enum-told .given .1) (none-in-4k _)
+unfolding hasReserved
+returns c = rw (c .enum-told .given .1)
 
 returns-2 : tie.Need-returns-2
 unfolding hasReserved
