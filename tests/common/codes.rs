@@ -4,7 +4,7 @@
 #![allow(dead_code)]
 
 /// Every code that an extent can have: those of places, then refusals.
-pub const EXTENT_CODES: &[u64] = &[1, 2, 3, 21, 22, 23, 24, 25, 26, 27, 28, 29, 31, 34];
+pub const EXTENT_CODES: &[u64] = &[1, 2, 3, 21, 22, 23, 24, 25, 26, 27, 28, 29, 31, 33, 34];
 
 /// Where an address leads: the image, the pagefile, a page of zeros.
 pub const PLACES: &[u64] = &[1, 2, 3];
@@ -22,10 +22,13 @@ pub const MODE_ZERO_CODES: &[u64] = match EXTENT_CODES {
 };
 
 /// The codes that a map can have in modes 1 and 2.
-pub const NARROW_CODES: &[u64] = &[1, 21, 23, 24, 34];
+pub const NARROW_CODES: [&[u64]; 2] = [&[1, 21, 23, 24, 34], &[1, 21, 23, 24, 33, 34]];
 
 /// The refusal of a page in the compressed store.
 pub const PAGE_IN_STORE: u64 = 31;
+
+/// The refusal of a reserved bit in an entry above the last level.
+pub const RESERVED_BIT_SET: u64 = 33;
 
 /// The refusal of a last-level state that is not followed in modes 1 and 2.
 pub const STATE_NOT_FOLLOWED: u64 = 34;

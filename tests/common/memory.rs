@@ -170,9 +170,10 @@ impl Memory {
 
     /// Lays a page that the walk may refuse, at any level.
     fn lay_odd(&mut self) -> u64 {
-        match self.random.below(8) {
+        match self.random.below(10) {
             0..=2 => self.lay_odd_upper(),
             3 => self.lay_odd_large(),
+            4 | 5 => self.lay_reserved(),
             _ => {
                 let entry = self.odd_entry();
                 let page = self.fresh_page();
@@ -205,6 +206,23 @@ impl Memory {
         page
     }
 
+    /// Lays a page behind an entry with a reserved bit, which may be wide too.
+    pub fn lay_reserved(&mut self) -> u64 {
+        let level = 1 + self.random.below(3) as u32;
+        let frame = self.any_frame();
+        let page = match level {
+            1 => self.page_beside_tables(1),
+            _ => self.page_in_large(level, frame),
+        };
+        let wide = match self.random.below(8) {
+            0 => self.wide(),
+            _ => 0,
+        };
+        let entry = self.reserved(frame, level) | wide;
+        self.put_entry(page, level, entry);
+        page
+    }
+
     /// Lays a page behind an odd entry above the last level.
     fn lay_odd_upper(&mut self) -> u64 {
         let level = 1 + self.random.below(3) as u32;
@@ -214,19 +232,23 @@ impl Memory {
         page
     }
 
-    /// An entry above the last level that is not valid, wide, or names a table in no run.
+    /// An entry above the last level that is not valid, wide, has a reserved bit, or names a table in no run.
     pub fn odd_upper_entry(&mut self, level: u32) -> u64 {
-        match self.random.below(6) {
+        match self.random.below(7) {
             0 => 0,
             1 => self.random.next() & !VALID,
             2 => self.transition_in(self.frames[0]),
             3 => {
                 let outside = self.frame_outside();
-                self.table(outside, level)
+                self.table(outside)
+            }
+            4 => {
+                let frame = self.any_frame();
+                self.reserved(frame, level)
             }
             _ => {
                 let frame = self.any_frame();
-                self.table(frame, level) | self.wide()
+                self.table(frame) | self.wide()
             }
         }
     }
@@ -350,21 +372,31 @@ impl Memory {
         }
     }
 
-    /// A valid entry that names a table; bit 7 says nothing at level one.
-    pub fn table(&mut self, frame: u64, level: u32) -> u64 {
-        let noise = self.noise(0xFFF0_0000_0000_0FFE);
-        let entry = frame << 12 | noise | VALID;
-        match level {
-            1 => entry,
-            _ => entry & !LARGE,
-        }
+    /// A valid entry that names a table.
+    pub fn table(&mut self, frame: u64) -> u64 {
+        frame << 12 | self.noise(0xFFF0_0000_0000_0F7E) | VALID
     }
 
-    /// A valid entry for a large page, its ignored base bits at random.
+    /// A valid entry for a large page; of the bits below its base, bit 12 says nothing.
     pub fn large(&mut self, frame: u64, level: u32) -> u64 {
-        let low_bits = (1 << (12 + 9 * (LAST_LEVEL - level))) - 1;
-        let noise = self.noise(0xFFF0_0000_0000_0FFE | low_bits);
+        let low_bits = (1 << lowest_base_bit(level)) - 1;
+        let noise = self.noise(0xFFF0_0000_0000_1FFE);
         (frame << 12 & !low_bits) | noise | LARGE | VALID
+    }
+
+    /// A valid entry with a reserved bit: bit 7 at level one, else one or more from bit 13 up to the large page's base.
+    pub fn reserved(&mut self, frame: u64, level: u32) -> u64 {
+        if level == 1 {
+            return self.table(frame) | LARGE;
+        }
+        let bits = u64::from(lowest_base_bit(level)) - 13;
+        let reserved = match self.random.below(4) {
+            0 => 1,
+            1 => 1 << (bits - 1),
+            2 => 1 << self.random.below(bits),
+            _ => 1 + self.random.below((1 << bits) - 1),
+        };
+        self.large(frame, level) | reserved << 13
     }
 
     pub fn valid_in(&mut self, frame: u64) -> u64 {
@@ -475,8 +507,8 @@ impl Memory {
     }
 
     /// A page whose own frame within a large page is this one.
-    fn page_in_large(&mut self, level: u32, frame: u64) -> u64 {
-        let low_bits = (1 << (12 + 9 * (LAST_LEVEL - level))) - 1;
+    pub fn page_in_large(&mut self, level: u32, frame: u64) -> u64 {
+        let low_bits = (1 << lowest_base_bit(level)) - 1;
         (self.page_beside_tables(level) & !low_bits) | (frame << 12 & low_bits)
     }
 
@@ -485,11 +517,11 @@ impl Memory {
         let mut table = self.directory;
         for upper in 1..level {
             let offset = entry_offset(table, page, upper);
-            table = match self.table_in(self.word(offset), upper) {
+            table = match self.table_in(self.word(offset)) {
                 Some(table) => table,
                 None => {
                     let taken = self.take_table();
-                    let entry = self.table(self.frames[taken], upper);
+                    let entry = self.table(self.frames[taken]);
                     self.put_word(offset, entry);
                     taken
                 }
@@ -499,9 +531,8 @@ impl Memory {
     }
 
     /// The image page of the table that an entry names, if it names one.
-    pub fn table_in(&self, entry: u64, level: u32) -> Option<usize> {
-        let large = level > 1 && entry & LARGE != 0;
-        if entry & VALID == 0 || entry >> 48 & 0xF != 0 || large {
+    pub fn table_in(&self, entry: u64) -> Option<usize> {
+        if entry & (VALID | LARGE) != VALID || entry >> 48 & 0xF != 0 {
             return None;
         }
         self.frames
@@ -551,6 +582,11 @@ pub fn sheet_fields(directory_page: u64, frames: &[u64]) -> Vec<u64> {
 /// Bits 48-63 made equal to bit 47.
 pub fn canonical(address: u64) -> u64 {
     ((address << 16) as i64 >> 16) as u64
+}
+
+/// 30 for the large pages of level two, 21 for those of level three.
+fn lowest_base_bit(level: u32) -> u32 {
+    12 + 9 * (LAST_LEVEL - level)
 }
 
 /// The image offset of the entry for a page in a table, which is an image page.

@@ -24,10 +24,12 @@ enum Flaw {
     Delta,
     WideDirectory,
     OtherDirectory,
+    ReservedBit,
 }
 
 /// Flaws are laid as often as none.
-const FLAWS: [Flaw; 16] = [
+const FLAWS: [Flaw; 18] = [
+    Flaw::None,
     Flaw::None,
     Flaw::None,
     Flaw::None,
@@ -44,6 +46,7 @@ const FLAWS: [Flaw; 16] = [
     Flaw::Delta,
     Flaw::WideDirectory,
     Flaw::OtherDirectory,
+    Flaw::ReservedBit,
 ];
 
 /// Lays one to four blocks, whole or flawed, and gives their image offsets.
@@ -147,8 +150,10 @@ fn directory_word(memory: &mut Memory) -> u64 {
 
 /// The virtual page that a block takes itself to be in, and the image page where it is.
 fn lay_own_page(memory: &mut Memory, flaw: Flaw) -> (u64, usize) {
-    if flaw == Flaw::InPagefile {
-        return lay_in_pagefile(memory);
+    match flaw {
+        Flaw::InPagefile => return lay_in_pagefile(memory),
+        Flaw::ReservedBit => return lay_behind_reserved_bit(memory),
+        _ => {}
     }
     // A page that is found in the wanted half may take several tries.
     for _ in 0..4 {
@@ -170,6 +175,17 @@ fn lay_own_page(memory: &mut Memory, flaw: Flaw) -> (u64, usize) {
     };
     let entry = memory.valid_in(memory.frames[image_page]);
     memory.put_entry(page, LAST_LEVEL, entry);
+    (page, image_page)
+}
+
+/// A large page that holds one of the image's frames but for a reserved bit of its entry.
+fn lay_behind_reserved_bit(memory: &mut Memory) -> (u64, usize) {
+    let level = 2 + memory.random.below(2) as u32;
+    let image_page = memory.take_page();
+    let frame = memory.frames[image_page];
+    let page = canonical(memory.page_in_large(level, frame) | 1 << 47);
+    let entry = memory.reserved(frame, level);
+    memory.put_entry(page, level, entry);
     (page, image_page)
 }
 

@@ -10,11 +10,11 @@ type Bits = &'static [RangeInclusive<u32>];
 /// Of a valid entry, where bit 7 says nothing.
 const VALID: Bits = &[1..=11, 52..=63];
 
-/// Of a valid entry that names a table, where bit 7 would make a large page.
+/// Of a valid entry that names a table, where bit 7 is reserved or would make a large page.
 const TABLE: Bits = &[1..=6, 8..=11, 52..=63];
 
-const LARGE_1G: Bits = &[1..=6, 8..=11, 12..=29, 52..=63];
-const LARGE_2M: Bits = &[1..=6, 8..=11, 12..=20, 52..=63];
+/// Of a valid entry for a large page; from bit 13 up to its base they are reserved.
+const LARGE: Bits = &[1..=6, 8..=12, 52..=63];
 const NOT_VALID: Bits = &[1..=63];
 const TRANSITION: Bits = &[1..=9, 48..=63];
 const PROTOTYPE: Bits = &[1..=9, 11..=15];
@@ -53,12 +53,8 @@ fn table_entries() -> Group {
     let mut tables = Tables::new();
     let found = tables.last(0x10_5001) + 0x123;
     let mut list = Vec::new();
-    for (level, bits, what) in [
-        (1, VALID, "level one"),
-        (2, TABLE, "level two"),
-        (3, TABLE, "level three"),
-    ] {
-        for (place, mask) in masks(bits).into_iter().enumerate() {
+    for (level, what) in [(1, "level one"), (2, "level two"), (3, "level three")] {
+        for (place, mask) in masks(TABLE).into_iter().enumerate() {
             let index = 0x20 + place as u64;
             tables.upper(level, index, Tables::table_below(level) | mask);
             // The levels below keep the indices that lead to the last-level table.
@@ -78,11 +74,11 @@ fn table_entries() -> Group {
 fn large_pages() -> Group {
     let mut tables = Tables::new();
     let mut list = Vec::new();
-    for (level, bits, answer, what) in [
-        (2, LARGE_1G, [1, 0x5123, 2], "1 GiB page"),
-        (3, LARGE_2M, [1, 0x5123, 3], "2 MiB page"),
+    for (level, answer, what) in [
+        (2, [1, 0x5123, 2], "1 GiB page"),
+        (3, [1, 0x5123, 3], "2 MiB page"),
     ] {
-        for (place, mask) in masks(bits).into_iter().enumerate() {
+        for (place, mask) in masks(LARGE).into_iter().enumerate() {
             let index = 0x20 + place as u64;
             tables.upper(level, index, 0x81 | mask);
             let address = index << (48 - 9 * level) | 0x10_5123;

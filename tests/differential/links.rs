@@ -2,8 +2,9 @@
 
 use crate::common::case_files::CaseFiles;
 use crate::common::memory::Memory;
+use crate::second::lists::MOST_NODES;
 use crate::second::slip::Slip;
-use crate::second::walk;
+use crate::second::walk::{self, word_at, Files};
 use std::collections::HashSet;
 
 /// A list's head, and its nodes in order.
@@ -47,6 +48,33 @@ pub fn put(files: &mut CaseFiles, address: u64, word: u64) -> Option<u64> {
     let before = u64::from_le_bytes((&*bytes).try_into().expect("a word has 8 bytes"));
     bytes.copy_from_slice(&word.to_le_bytes());
     Some(before)
+}
+
+/// The first address that is refused on the way through a list, if one is.
+pub fn refused_address(files: Files, head: u64) -> Option<u64> {
+    let mut node = head;
+    for _ in 0..=MOST_NODES {
+        let Some(forward) = word_in(files, node) else {
+            return Some(node);
+        };
+        let back = forward.checked_add(8)?;
+        if word_in(files, back).is_none() {
+            return Some(back);
+        }
+        node = forward;
+    }
+    None
+}
+
+/// The word at an address, if it is not refused.
+fn word_in(files: Files, address: u64) -> Option<u64> {
+    let answer = walk::resolve(files, address, Slip::None);
+    match answer.number {
+        1 => Some(word_at(files.image, answer.offset)),
+        2 => Some(word_at(files.pagefile, answer.offset)),
+        3 => Some(0),
+        _ => None,
+    }
 }
 
 /// The file and offset that an address leads to.

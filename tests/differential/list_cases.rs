@@ -219,6 +219,7 @@ fn lay_pages(memory: &mut Memory) -> Pages {
         let odd = memory.random.below(u64::from(prototypes) + 1) as u32;
         pages.odd.push(memory.lay(prototypes, Some(odd)).0);
     }
+    pages.odd.push(memory.lay_reserved());
     let row = memory.lay_row();
     pages.found.extend(row);
     pages.pairs.extend(&row[..2]);
@@ -328,7 +329,7 @@ fn fault(
     let links = random.below(ring.nodes.len() as u64 + 1) as usize;
     let (node, next) = (ring.after(links), ring.after(links + 1));
     let any_node = rings[1].after(random.below(rings[1].nodes.len() as u64 + 1) as usize);
-    let (forward, back) = match random.below(16) {
+    let (forward, back) = match random.below(18) {
         0 => (next + 1 + random.below(7), None),
         1 => (next ^ 4, None),
         2 => (next, Some(node ^ 1 << random.below(64))),

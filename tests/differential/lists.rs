@@ -11,6 +11,7 @@ mod common {
     pub mod memory;
     pub mod print;
     pub mod random;
+    pub mod reserved;
     pub mod small_case;
     pub mod tally;
 }
@@ -43,10 +44,12 @@ use common::case_files::CaseFiles;
 use common::codes::{CASE_REFUSALS, NOT_CANONICAL, PAGE_REFUSALS};
 use common::many_runs::ByRuns;
 use common::print::{hex, with_commas};
+use common::reserved::{reserved_level, ByLevel};
 use common::tally::{print_table, Tally};
+use links::refused_address;
 use list_cases::{each_question, each_question_about_forms, p11_files, Question, P11_HEAD};
 use lists_at_edges::each_question_about_runs;
-use second::lists::{process_list, processor_block};
+use second::lists::{process_list, processor_block, Written};
 use second::slip::{Slip, FORM_SLIPS, LIST_SLIPS};
 use second::walk::Files;
 use std::process::ExitCode;
@@ -72,7 +75,7 @@ const MOST_SHOWN: usize = 5;
 const GUARD: usize = 8;
 
 fn main() -> ExitCode {
-    let slips = [LIST_SLIPS, FORM_SLIPS].concat();
+    let slips = [LIST_SLIPS, FORM_SLIPS, &[Slip::ReservedNotKnown]].concat();
     arguments::run("lists", 50_000, &slips, |arguments| {
         let mut comparison = Comparison::new(arguments.slip);
         let mut compare =
@@ -94,6 +97,7 @@ struct Comparison {
     lists_by_runs: ByRuns,
     blocks_by_forms: FormTimes,
     lists_by_forms: FormTimes,
+    lists_reserved: ByLevel,
     /// The lists written, by their length in few steps.
     lengths: Tally,
     differing: u64,
@@ -112,6 +116,7 @@ impl Comparison {
             lists_by_runs: ByRuns::new("list", list_numbers()),
             blocks_by_forms: FormTimes::new("block search", &SHEET),
             lists_by_forms: FormTimes::new("list", &SHEET),
+            lists_reserved: ByLevel::new("list"),
             lengths: Tally::new("lists written", LENGTHS.to_vec()),
             differing: 0,
             shown: Vec::new(),
@@ -167,13 +172,8 @@ impl Comparison {
             &mut their_buffer[..room],
         );
         let ours = process_list(files, head, &mut our_buffer[..room], self.slip);
-        self.lists.count(ours.number);
-        self.lists_by_runs.count(files.sheet, ours.number);
-        self.lists_by_forms
-            .count(files.sheet, ours.number, ours.length);
-        if ours.number == 0 {
-            self.lengths.count(length_class(ours.length));
-        }
+        self.count_list(files, head, &ours);
+        let [their_buffer, our_buffer] = &self.buffers;
         let theirs = [theirs.number, theirs.length];
         let ours = [ours.number, ours.length];
         if theirs == ours && their_buffer == our_buffer {
@@ -190,6 +190,19 @@ impl Comparison {
                 place, their_buffer[place], our_buffer[place]
             ))
         ))
+    }
+
+    fn count_list(&mut self, files: Files, head: u64, ours: &Written) {
+        self.lists.count(ours.number);
+        self.lists_by_runs.count(files.sheet, ours.number);
+        self.lists_by_forms
+            .count(files.sheet, ours.number, ours.length);
+        self.lists_reserved.count(ours.number, || {
+            reserved_level(files, refused_address(files, head)?)
+        });
+        if ours.number == 0 {
+            self.lengths.count(length_class(ours.length));
+        }
     }
 }
 
@@ -229,6 +242,7 @@ fn report(comparison: &Comparison) -> bool {
     comparison.lists_by_runs.print();
     comparison.blocks_by_forms.print();
     comparison.lists_by_forms.print();
+    ByLevel::print(&[&comparison.lists_reserved]);
     comparison
         .shown
         .iter()
@@ -244,6 +258,7 @@ fn report(comparison: &Comparison) -> bool {
     reasons.extend(comparison.lists_by_runs.reasons(&[0, 23]));
     reasons.extend(comparison.blocks_by_forms.reasons());
     reasons.extend(comparison.lists_by_forms.reasons());
+    reasons.extend(comparison.lists_reserved.reasons());
     judge_p11(&mut reasons);
     judge_stated_sheets(&mut reasons);
     reasons.iter().for_each(|reason| println!("{}", reason));

@@ -131,6 +131,10 @@ fn lay_short(memory: &mut Memory) -> Vec<Range> {
         let (start, _) = memory.lay(prototypes, odd);
         ranges.push(Range { start, pages: 1 });
     }
+    if memory.random.below(2) == 0 {
+        let start = memory.lay_reserved();
+        ranges.push(Range { start, pages: 1 });
+    }
     ranges
 }
 
@@ -391,4 +395,28 @@ pub fn store_files() -> CaseFiles {
         pagefile: vec![0; 4 * PAGE as usize],
         ..files
     }
+}
+
+/// Image page 5, then a 2 MiB page whose entry has bit 13 set, and whose second and third frames are in the run (02,
+/// order 8).
+pub const RESERVED: Stated = Stated {
+    start: 0xBF_F000,
+    pages: 4,
+    map: &[0x01, 0xFF, 0x17, 0x04, 0x01, 0x01, 0x05, 0x21, 0x03],
+    lookups: &[
+        (0xBF_FABC, 1, 0x5ABC),
+        (0xC0_0000, 33, 0),
+        (0xC0_2FFF, 33, 0),
+        (0xC0_3000, 41, 0),
+        (0x8000_00C0_0000, 20, 0),
+    ],
+};
+
+/// The map of the same pages by the rules before: frame 0 in no run, then image pages 0 and 1.
+pub const RESERVED_BEFORE: &[u8] = &[
+    0x01, 0xFF, 0x17, 0x04, 0x01, 0x01, 0x05, 0x17, 0x01, 0x01, 0x02, 0x00,
+];
+
+pub fn reserved_files() -> CaseFiles {
+    small_case(&[(0x3FF8, 0x6001), (0x2030, 0x2081)])
 }

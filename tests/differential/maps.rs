@@ -11,6 +11,7 @@ mod common {
     pub mod memory;
     pub mod print;
     pub mod random;
+    pub mod reserved;
     pub mod small_case;
     pub mod tally;
 }
@@ -33,13 +34,16 @@ mod second {
 use common::arguments;
 use common::bad_forms::{self, FormTimes, MAP, SHEET, STATED_MAPS, STATED_SHEETS};
 use common::case_files::CaseFiles;
-use common::codes::{CASE_REFUSALS, EXTENT_CODES, MODE_ZERO_CODES, NOT_CANONICAL};
+use common::codes::{
+    CASE_REFUSALS, EXTENT_CODES, MODE_ZERO_CODES, NOT_CANONICAL, RESERVED_BIT_SET,
+};
 use common::many_runs::ByRuns;
 use common::print::{hex, with_commas};
+use common::reserved::{reserved_level, reserved_levels, ByLevel};
 use common::tally::{print_table, Tally};
 use map_cases::{
-    each_question, each_question_about_forms, each_question_about_runs, p2_files, store_files,
-    Question, Stated, P2, STORE, STORE_BEFORE,
+    each_question, each_question_about_forms, each_question_about_runs, p2_files, reserved_files,
+    store_files, Question, Stated, P2, RESERVED, RESERVED_BEFORE, STORE, STORE_BEFORE,
 };
 use other_maps::each_short_map;
 use second::map::{lookup, map, map_bytes, read_map, Found};
@@ -74,7 +78,7 @@ const MOST_MAP_BYTES: usize = 64;
 const GUARD: usize = 64;
 
 fn main() -> ExitCode {
-    let slips = [MAP_SLIPS, FORM_SLIPS].concat();
+    let slips = [MAP_SLIPS, FORM_SLIPS, &[Slip::ReservedNotKnown]].concat();
     arguments::run("maps", 50_000, &slips, |arguments| {
         let mut comparison = Comparison::new(arguments.slip);
         each_short_map(&mut |map| comparison.compare_short(map));
@@ -96,6 +100,8 @@ struct Comparison {
     codes_by_runs: ByRuns,
     maps_by_forms: FormTimes,
     lookups_by_forms: FormTimes,
+    maps_reserved: ByLevel,
+    lookups_reserved: ByLevel,
     lookups: Tally,
     other_lookups: Tally,
     short_lookups: Tally,
@@ -114,6 +120,8 @@ impl Comparison {
             codes_by_runs: ByRuns::new("maps with code", MODE_ZERO_CODES.to_vec()),
             maps_by_forms: FormTimes::new("map call", &SHEET),
             lookups_by_forms: FormTimes::new("other maps", &MAP),
+            maps_reserved: ByLevel::new("maps with code"),
+            lookups_reserved: ByLevel::new("lookup"),
             lookups: Tally::new("lookup", lookup_numbers()),
             other_lookups: Tally::new("other maps", lookup_numbers()),
             short_lookups: Tally::new("short maps", lookup_numbers()),
@@ -204,6 +212,9 @@ impl Comparison {
         for code in met {
             self.codes.count(code);
             self.codes_by_runs.count(&files.sheet, code);
+            self.maps_reserved.count(code, || {
+                reserved_levels(files.lent(), &map.ends_with(RESERVED_BIT_SET))
+            });
         }
     }
 
@@ -227,6 +238,8 @@ impl Comparison {
         // An allowed range does not wrap, so that this is below its length for its own addresses.
         if address.wrapping_sub(question.start) / 4096 < question.pages {
             let walked = walk::resolve(files, address, Slip::None);
+            self.lookups_reserved
+                .count(ours.number, || reserved_level(files, address));
             let pair = [pair[0], [walked.number, walked.offset]];
             if pair[0] != pair[1] {
                 differences.push(pair_text(&format!("walk and {}", what), pair));
@@ -312,10 +325,20 @@ fn report(comparison: &Comparison) -> bool {
     comparison.codes_by_runs.print();
     comparison.maps_by_forms.print();
     comparison.lookups_by_forms.print();
+    ByLevel::print(&[&comparison.maps_reserved, &comparison.lookups_reserved]);
     comparison
         .shown
         .iter()
         .for_each(|text| println!("{}", text));
+    let reasons = reasons_to_fail(comparison);
+    reasons.iter().for_each(|reason| println!("{}", reason));
+    if reasons.is_empty() {
+        println!("maps: {} cases agree", with_commas(comparison.cases));
+    }
+    reasons.is_empty()
+}
+
+fn reasons_to_fail(comparison: &Comparison) -> Vec<String> {
     let mut reasons = Vec::new();
     if comparison.differing > 0 {
         reasons.push(format!("differs: {}", comparison.differing));
@@ -325,18 +348,18 @@ fn report(comparison: &Comparison) -> bool {
     reasons.extend(comparison.codes_by_runs.reasons(&[1, 23]));
     reasons.extend(comparison.maps_by_forms.reasons());
     reasons.extend(comparison.lookups_by_forms.reasons());
+    reasons.extend(comparison.maps_reserved.reasons());
+    reasons.extend(comparison.lookups_reserved.reasons());
     reasons.extend(comparison.lookups.reasons(MODE_ZERO_CODES));
     reasons.extend(comparison.lookups.reasons(OF_ADDRESS));
     reasons.extend(comparison.other_lookups.reasons(&lookup_numbers()));
     judge_stated("P2", &P2, &p2_files(), &mut reasons);
     judge_stated("order 5", &STORE, &store_files(), &mut reasons);
-    judge_rules_before(&mut reasons);
+    judge_stated("order 8", &RESERVED, &reserved_files(), &mut reasons);
+    judge_rules_before(&BEFORE_ORDER_5, &store_files(), &mut reasons);
+    judge_rules_before(&BEFORE_ORDER_8, &reserved_files(), &mut reasons);
     judge_bad_forms(&mut reasons);
-    reasons.iter().for_each(|reason| println!("{}", reason));
-    if reasons.is_empty() {
-        println!("maps: {} cases agree", with_commas(comparison.cases));
-    }
-    reasons.is_empty()
+    reasons
 }
 
 /// Both readers against a stated map and its lookups.
@@ -373,37 +396,70 @@ fn judge_stated(what: &str, stated: &Stated, files: &CaseFiles, reasons: &mut Ve
     }
 }
 
-/// The second reader by the rules before order 5, with neither the entry's state nor code 31.
-fn judge_rules_before(reasons: &mut Vec<String>) {
+/// The rules before an order that brought a code: by which slips they are, and a stated map with what they made of it.
+struct RulesBefore {
+    what: &'static str,
+    walk: Slip,
+    codes: Slip,
+    stated: Stated,
+    made: &'static [u8],
+    /// An address of that map, with the number and the offset that it has by them.
+    false_place: (u64, u64, u64),
+}
+
+const BEFORE_ORDER_5: RulesBefore = RulesBefore {
+    what: "rules before order 5",
+    walk: Slip::StoreNotKnown,
+    codes: Slip::CodeThirtyOneUnlisted,
+    stated: STORE,
+    made: STORE_BEFORE,
+    false_place: (0xB1_2ABC, 2, 0x3ABC),
+};
+
+const BEFORE_ORDER_8: RulesBefore = RulesBefore {
+    what: "rules before order 8",
+    walk: Slip::ReservedNotKnown,
+    codes: Slip::CodeThirtyThreeUnlisted,
+    stated: RESERVED,
+    made: RESERVED_BEFORE,
+    false_place: (0xC0_2ABC, 1, 0x1ABC),
+};
+
+/// The second reader by the rules before, with neither the entry's state nor its code.
+fn judge_rules_before(before: &RulesBefore, files: &CaseFiles, reasons: &mut Vec<String>) {
     let made = |stated: &Stated, files: &CaseFiles| {
         let Stated { start, pages, .. } = *stated;
-        map_bytes(files.lent(), start, pages, Slip::StoreNotKnown)
+        map_bytes(files.lent(), start, pages, before.walk)
     };
     let read = |stated: &Stated, address| {
-        let found = lookup(stated.map, address, Slip::CodeThirtyOneUnlisted);
+        let found = lookup(stated.map, address, before.codes);
         [found.number, found.offset]
     };
     let mut judge = |holds: bool, what: &str| {
         if !holds {
-            reasons.push(format!("rules before order 5: {}", what));
+            reasons.push(format!("{}: {}", before.what, what));
         }
     };
-    for (address, ..) in STORE.lookups {
-        let refused = read(&STORE, *address) == [43, 0];
-        judge(refused, "a map with code 31 is read");
+    for (address, ..) in before.stated.lookups {
+        let refused = read(&before.stated, *address) == [43, 0];
+        judge(refused, "a map with the code is read");
     }
     for (address, number, offset) in P2.lookups {
         let same = read(&P2, *address) == [*number, *offset];
-        judge(same, "a map without code 31 is read otherwise");
+        judge(same, "a map without the code is read otherwise");
     }
     let same = made(&P2, &p2_files()).as_deref() == Ok(P2.map);
     judge(same, "a map without such pages has other bytes");
-    let false_places = made(&STORE, &store_files()).as_deref() == Ok(STORE_BEFORE);
+    let false_places = made(&before.stated, files).as_deref() == Ok(before.made);
     judge(false_places, "a map of such pages has no false places");
     // No reader can tell that these places hold nothing of the page.
-    let found = lookup(STORE_BEFORE, 0xB1_2ABC, Slip::None);
-    let taken = [found.number, found.offset] == [2, 0x3ABC];
-    judge(taken, "a map made by them is not read now");
+    let (address, number, offset) = before.false_place;
+    let theirs = exports_map::lookup(before.made, address);
+    let ours = lookup(before.made, address, Slip::None);
+    for found in [[theirs.number, theirs.offset], [ours.number, ours.offset]] {
+        let taken = found == [number, offset];
+        judge(taken, "a map made by them is not read now");
+    }
 }
 
 /// Both readers against sheets and maps that are refused as stated.

@@ -14,6 +14,7 @@ mod common {
     pub mod memory;
     pub mod print;
     pub mod random;
+    pub mod reserved;
     pub mod tally;
 }
 #[cfg(not(alone))]
@@ -61,9 +62,9 @@ use common::tally::{print_table, Tally};
 use narrow_answers::{Answers, Calls, Second};
 use narrow_cases::{each_bad_form, each_damaged_sheet, each_question, Question, Stated, STATED};
 use narrow_met::Met;
-use second::map::read_map;
+use second::map::{read_map, Map};
 use second::sheet::{check_sheet, read_sheet, PAE, PLAIN};
-use second::slip::{Slip, NARROW_SLIPS};
+use second::slip::{Slip, NARROW_SLIPS, RESERVED_SLIPS};
 use second::walk::Files;
 use std::collections::HashSet;
 use std::process::ExitCode;
@@ -86,6 +87,7 @@ const OTHER_SLIPS: &[Slip] = &[
     Slip::EditionTwoForModeZero,
     Slip::GivenPlaceOf128Taken,
     Slip::GivenPlaceInPlainTaken,
+    Slip::CodeThirtyThreeUnlisted,
     Slip::CodeThirtyFourUnlisted,
 ];
 
@@ -96,7 +98,7 @@ const MOST_ENTRIES: [u64; 2] = [2, 3];
 const MOST_SHOWN: usize = 5;
 
 fn main() -> ExitCode {
-    let slips = [NARROW_SLIPS, OTHER_SLIPS].concat();
+    let slips = [NARROW_SLIPS, RESERVED_SLIPS, OTHER_SLIPS].concat();
     arguments::run("narrow", 100_000, &slips, |arguments| {
         let mut comparison = Comparison::new(arguments.slip);
         let mut compare = |mode, files: &CaseFiles, question: &Question| {
@@ -109,16 +111,17 @@ fn main() -> ExitCode {
     })
 }
 
-/// The calls, and every number that each can hand back in modes 1 and 2; a page of zeros cannot arise.
-fn calls() -> [(&'static str, Vec<u64>); 11] {
-    let of_bytes = [&[20, 21, 23, 24, 34], CASE_REFUSALS].concat();
+/// The calls, and every number that each can hand back in mode 1 or 2; a page of zeros cannot arise.
+fn calls(mode: u64) -> [(&'static str, Vec<u64>); 11] {
+    let codes = NARROW_CODES[mode as usize - 1];
+    let of_bytes = [&[20], &codes[1..], CASE_REFUSALS].concat();
     let with = |numbers: &[u64]| [numbers, CASE_REFUSALS].concat();
     [
         ("resolve", [&[1], &of_bytes[..]].concat()),
         ("read", [&[0, 45], &of_bytes[..]].concat()),
         ("map", with(&[0, 40, 44])),
-        ("codes in maps", NARROW_CODES.to_vec()),
-        ("lookup", [NARROW_CODES, &[20, 41]].concat()),
+        ("codes in maps", codes.to_vec()),
+        ("lookup", [codes, &[20, 41]].concat()),
         ("time", [&[0, 60, 61], &of_bytes[..]].concat()),
         ("block", with(&[37])),
         ("list", with(&[37])),
@@ -143,15 +146,15 @@ struct Comparison {
 
 impl Comparison {
     fn new(slip: Slip) -> Self {
-        let tallies = || {
-            calls()
+        let tallies = |mode| {
+            calls(mode)
                 .map(|(call, numbers)| Tally::new(call, numbers))
                 .into()
         };
         Comparison {
             slip,
             cases: [0; 2],
-            tallies: [tallies(), tallies()],
+            tallies: [tallies(PLAIN), tallies(PAE)],
             most_entries: [0; 2],
             bad_forms: FormTimes::new("case", &SHEET_WITH_MODE),
             met: Met::new(),
@@ -184,12 +187,12 @@ impl Comparison {
         }
         let which = mode as usize - 1;
         let map_bytes = &ours.map_bytes[..ours.map_bytes.len().min(ours.map[1] as usize)];
-        let codes = match ours.map[0] {
+        let map = match ours.map[0] {
             // Only a slip writes a map that cannot be read.
-            0 => read_map(map_bytes).unwrap_or_default().extents,
-            _ => Vec::new(),
+            0 => read_map(map_bytes).unwrap_or_default(),
+            _ => Map::default(),
         };
-        let codes: HashSet<u64> = codes.iter().map(|extent| extent.code).collect();
+        let codes: HashSet<u64> = map.extents.iter().map(|extent| extent.code).collect();
         let said: [Vec<u64>; 11] = [
             vec![ours.resolved[0]],
             vec![ours.read[0]],
@@ -211,6 +214,7 @@ impl Comparison {
         let lengths = [files.image, files.pagefile].map(|file| file.len() as u64);
         if let Ok(case) = check_sheet(files.sheet, lengths[0], lengths[1], Slip::None) {
             self.met.look(&case, files, question, ours);
+            self.met.look_at_reserved(files, question, ours, &map);
         }
     }
 }
@@ -283,7 +287,7 @@ fn reasons_to_fail(comparison: &Comparison) -> Vec<String> {
         reasons.push(format!("differs: {}", comparison.differing));
     }
     for (mode, tallies) in [PLAIN, PAE].iter().zip(&comparison.tallies) {
-        for (tally, (_, numbers)) in tallies.iter().zip(calls()) {
+        for (tally, (_, numbers)) in tallies.iter().zip(calls(*mode)) {
             let rare = tally.reasons(&numbers);
             reasons.extend(
                 rare.iter()

@@ -115,7 +115,7 @@ impl NarrowMemory {
         let start = self.memory.directory * PAGE_BYTES;
         for offset in (start..start + PAGE_BYTES).step_by(8) {
             let page = self.memory.any_page();
-            let entry = self.memory.table(self.memory.frames[page], 2);
+            let entry = self.memory.table(self.memory.frames[page]);
             self.memory.image[offset..offset + 8].copy_from_slice(&entry.to_le_bytes());
         }
         let top = start + 32 * self.place as usize;
@@ -125,19 +125,19 @@ impl NarrowMemory {
     /// Lays a page that is found or refused at any level.
     pub fn lay(&mut self) -> u64 {
         let upper_levels = levels(self.mode).len() as u64 - 1;
-        match self.memory.random.below(16) {
-            0 | 1 => {
+        match self.memory.random.below(17) {
+            0..=2 => {
                 let level = self.memory.random.below(upper_levels) as usize;
                 let page = self.fresh_page(level);
                 let entry = self.odd_upper_entry(level);
                 self.put_entry(page, level, entry);
                 page
             }
-            2..=6 => self.lay_large(),
+            3..=7 => self.lay_large(),
             turn => {
                 let page = self.fresh_page(upper_levels as usize);
                 let entry = match turn {
-                    7..=10 => self.odd_entry(),
+                    8..=11 => self.odd_entry(),
                     _ => self.found_entry(),
                 };
                 self.put_entry(page, upper_levels as usize, entry);
@@ -186,13 +186,21 @@ impl NarrowMemory {
         page
     }
 
-    /// What makes a valid entry 24: bits 13-21 of a 4 MiB page, bits 48-51 in mode 2.
+    /// What refuses a valid entry of a large page: bits from 13 up to its base, bits 48-51 in mode 2, or both.
     fn refusing_bits(&mut self) -> u64 {
-        match (self.mode, self.memory.random.below(4)) {
-            (PLAIN, 0) => 1 << 13,
-            (PLAIN, 1) => 1 << 21,
-            (PLAIN, _) => (1 + self.memory.random.below(0x1FF)) << 13,
-            _ => self.memory.wide(),
+        let reserved = match self.mode {
+            PLAIN => 9,
+            _ => 8,
+        };
+        let reserved = match self.memory.random.below(3) {
+            0 => 1,
+            1 => 1 << (reserved - 1),
+            _ => 1 + self.memory.random.below((1 << reserved) - 1),
+        };
+        match (self.mode, self.memory.random.below(7)) {
+            (PLAIN, _) | (_, 0..=3) => reserved << 13,
+            (_, 4 | 5) => self.memory.wide(),
+            _ => reserved << 13 | self.memory.wide(),
         }
     }
 
@@ -201,15 +209,16 @@ impl NarrowMemory {
         let table = self.take_table();
         let in_run = self.memory.frames[table];
         let outside = self.frame_outside();
-        let entry = match self.memory.random.below(6) {
+        let any = [in_run, outside][self.memory.random.below(2) as usize];
+        let entry = match self.memory.random.below(12) {
             0 => 0,
             1 => self.memory.random.next() & !VALID,
             2 | 3 => self.memory.transition_in(in_run),
-            4 => self.table_entry(outside, level),
-            _ => {
-                let frame = [in_run, outside][self.memory.random.below(2) as usize];
-                self.table_entry(frame, level) | self.memory.wide()
-            }
+            4 => self.memory.table(outside),
+            // In mode 2 the bit is reserved in a top entry; elsewhere it makes a large page.
+            5..=8 if level == 0 => self.memory.table(any) | LARGE,
+            9 if level == 0 => self.memory.table(any) | LARGE | self.memory.wide(),
+            _ => self.memory.table(any) | self.memory.wide(),
         };
         self.cut(entry)
     }
@@ -264,13 +273,6 @@ impl NarrowMemory {
             PLAIN => u64::from(entry as u32),
             _ => entry,
         }
-    }
-
-    /// A valid entry for a table; bit 7 says nothing in the four top entries of mode 2.
-    fn table_entry(&mut self, frame: u64, level: usize) -> u64 {
-        let with_large_pages = level == levels(self.mode).len() - 2;
-        self.memory
-            .table(frame, if with_large_pages { 2 } else { 1 })
     }
 
     fn frame_limit(&self) -> u64 {
@@ -338,10 +340,10 @@ impl NarrowMemory {
         let mut table = self.memory.directory;
         for upper in 0..level {
             let offset = self.entry_offset(table, page, upper);
-            let named = self.table_in(self.entry_at(offset), upper);
+            let named = self.memory.table_in(self.entry_at(offset));
             table = named.unwrap_or_else(|| {
                 let taken = self.take_table();
-                let entry = self.table_entry(self.memory.frames[taken], upper);
+                let entry = self.memory.table(self.memory.frames[taken]);
                 self.put_at(offset, entry);
                 taken
             });
@@ -356,16 +358,6 @@ impl NarrowMemory {
                 return page;
             }
         }
-    }
-
-    /// The image page of the table that an entry names, if it names one.
-    fn table_in(&self, entry: u64, level: usize) -> Option<usize> {
-        let large = level == levels(self.mode).len() - 2 && entry & LARGE != 0;
-        if entry & VALID == 0 || entry >> 48 & 0xF != 0 || large {
-            return None;
-        }
-        let frame = entry >> 12 & (FRAME_LIMIT - 1);
-        self.memory.frames.binary_search(&frame).ok()
     }
 
     fn entry_offset(&self, table: usize, page: u64, level: usize) -> usize {

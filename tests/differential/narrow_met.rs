@@ -1,14 +1,21 @@
 //! What the cases of modes 1 and 2 have in them, each thing to be met often enough in each mode that can have it.
 
+use crate::common::codes::RESERVED_BIT_SET;
 use crate::common::memory::{LARGE, PROTOTYPE, TRANSITION, VALID};
 use crate::common::print::with_commas;
+use crate::common::reserved::{reserved_level_of_read, reserved_levels};
 use crate::common::tally::LEAST_TIMES;
 use crate::narrow_answers::Answers;
 use crate::narrow_cases::Question;
 use crate::narrow_memory::{entry_at, levels, ADDRESS_LIMIT};
+use crate::second::map::Map;
 use crate::second::sheet::{Case, LAST_PLACE, PAE, PLAIN};
 use crate::second::slip::Slip;
 use crate::second::walk::{bits, resolve, Files, Place};
+
+/// The levels of mode 2 above the last.
+const TOP: u64 = 1;
+const MIDDLE: u64 = 2;
 
 /// Makes the enum of all things, and the list of them with the modes that can have each.
 macro_rules! things {
@@ -38,6 +45,11 @@ things! {
         LargeAtRunEnd
         LargeBeforeRun
         LargeBehindRun
+        LargeWithBit12
+        ReservedInRun
+        ReservedInGap
+        ReservedBit13Alone
+        ReservedLastBitAlone
         Address2To32
         LastAddressFound
         ReadTo2To32
@@ -50,13 +62,6 @@ things! {
         ListHeadUnaligned
         BlockFromPastImage
     ;
-    &[PLAIN] =>
-        ReservedInRun
-        ReservedInGap
-        ReservedBit13Alone
-        ReservedBit21Alone
-        LargeWithBit12
-    ;
     &[PAE] =>
         MiddleInTransition
         TopWide
@@ -64,8 +69,20 @@ things! {
         LargeWide
         LastWide
         TopWideInGap
-        TopWithBit7
-        LargeWithLowBits
+        TopReserved
+        TopReservedInGap
+        TopReservedAndWide
+        TopReservedInRead
+        TopReservedInMap
+        TopReservedInLookup
+        LargeReserved
+        LargeReservedAndWide
+        LargeReservedInRead
+        LargeReservedInMap
+        LargeReservedInLookup
+        TableWithReservedBits
+        NotValidWithReservedBits
+        LastWithReservedBits
         TransitionWithHighBits
         FrameFrom2To20
         FoundAtPlaceZero
@@ -109,6 +126,32 @@ impl Met {
         );
         self.look_at_fields(mode, question, answers);
         self.look_at_range(mode, question, answers.map[0]);
+    }
+
+    /// Looks at what was refused for a reserved bit in mode 2, by the level of its entry.
+    pub fn look_at_reserved(
+        &mut self,
+        files: Files,
+        question: &Question,
+        answers: &Answers,
+        map: &Map,
+    ) {
+        let read = match answers.read[0] {
+            RESERVED_BIT_SET => reserved_level_of_read(files, question.start, question.n),
+            _ => None,
+        };
+        let in_map = reserved_levels(files, &map.ends_with(RESERVED_BIT_SET));
+        let lookups = question.lookups.iter().zip(&answers.lookups);
+        let lookups = lookups.filter(|(_, found)| found[0] == RESERVED_BIT_SET);
+        let lookups: Vec<u64> = lookups.map(|(address, _)| *address).collect();
+        let in_lookups = reserved_levels(files, &lookups);
+        let mut note = |thing, is_met| self.note(PAE, thing, is_met);
+        note(Thing::TopReservedInRead, read == Some(TOP));
+        note(Thing::LargeReservedInRead, read == Some(MIDDLE));
+        note(Thing::TopReservedInMap, in_map.contains(&TOP));
+        note(Thing::LargeReservedInMap, in_map.contains(&MIDDLE));
+        note(Thing::TopReservedInLookup, in_lookups.contains(&TOP));
+        note(Thing::LargeReservedInLookup, in_lookups.contains(&MIDDLE));
     }
 
     /// Looks at the read and at the time, by where they end.
@@ -166,7 +209,12 @@ impl Met {
         let found = answer.number == 1;
         note(Thing::FoundAtPlaceZero, found && case.place == 0);
         note(Thing::FoundAtLastPlace, found && case.place == LAST_PLACE);
-        note(Thing::TopWithBit7, found && entries[0] & LARGE != 0);
+        let reserved = |entry: &u64| bits(*entry, 13, 20) != 0;
+        let uppers = &entries[..read.min(2)];
+        note(
+            Thing::TableWithReservedBits,
+            found && read == 3 && uppers.iter().all(reserved),
+        );
         match read == levels(case.mode).len() {
             true => self.look_at_last(case.mode, entry, answer.number),
             false => self.look_at_upper(case, entry, read, answer.number, address),
@@ -178,6 +226,8 @@ impl Met {
         let mut note = |thing, is_met| self.note(case.mode, thing, is_met);
         let transition = number == 21 && entry & (TRANSITION | PROTOTYPE) == TRANSITION;
         let wide = number == 24 && bits(entry, 48, 51) != 0;
+        let reserved_top = read == 1 && entry & LARGE != 0;
+        let reserved_bits = entry & LARGE != 0 && bits(entry, 13, 20) != 0;
         let in_gap = !is_in_run(case, bits(entry, 12, 47));
         let may_be_large = read == levels(case.mode).len() - 1;
         let is_large = may_be_large && entry & (LARGE | VALID) == LARGE | VALID;
@@ -186,6 +236,16 @@ impl Met {
         note(Thing::TopWide, wide && read == 1);
         note(Thing::TopWideInGap, wide && read == 1 && in_gap);
         note(Thing::MiddleWide, wide && read == 2 && !is_large);
+        note(Thing::TopReserved, number == 33 && reserved_top);
+        note(
+            Thing::TopReservedInGap,
+            number == 33 && reserved_top && in_gap,
+        );
+        note(Thing::TopReservedAndWide, wide && reserved_top);
+        note(
+            Thing::NotValidWithReservedBits,
+            number == 21 && reserved_bits && read == 2,
+        );
         note(Thing::TableInGap, number == 23 && !is_large);
         if is_large {
             self.look_at_large(case, entry, address, number);
@@ -204,6 +264,10 @@ impl Met {
             found && !valid && bits(entry, 48, 51) != 0,
         );
         note(Thing::FoundWithBit7, found && entry & LARGE != 0);
+        note(
+            Thing::LastWithReservedBits,
+            found && entry & LARGE != 0 && bits(entry, 13, 20) != 0,
+        );
         note(Thing::FrameFrom2To20, found && bits(entry, 32, 47) != 0);
         note(Thing::LastFrameInGap, number == 23);
         note(Thing::LastWide, number == 24);
@@ -240,18 +304,30 @@ impl Met {
             Thing::LargeBehindRun,
             missing && runs.iter().any(|run| run.end() == frame),
         );
-        let reserved = bits(entry, 13, 21);
-        let in_run = is_in_run(case, frame);
-        note(Thing::ReservedInRun, number == 24 && in_run);
-        note(Thing::ReservedInGap, number == 24 && !in_run);
-        note(Thing::ReservedBit13Alone, number == 24 && reserved == 1);
-        note(
-            Thing::ReservedBit21Alone,
-            number == 24 && reserved == 1 << 8,
-        );
         note(Thing::LargeWithBit12, found && bits(entry, 12, 12) != 0);
-        note(Thing::LargeWide, number == 24);
-        note(Thing::LargeWithLowBits, found && bits(entry, 13, 20) != 0);
+        self.look_at_reserved_bits(case, entry, frame, number);
+    }
+
+    /// Looks at the bits of a large page's entry from 13 up to its base: 24 in mode 1, 33 in mode 2.
+    fn look_at_reserved_bits(&mut self, case: &Case, entry: u64, frame: u64, number: u64) {
+        let mut note = |thing, is_met| self.note(case.mode, thing, is_met);
+        let low = levels(case.mode)[levels(case.mode).len() - 2].low;
+        let reserved = bits(entry, 13, low - 1);
+        let refused = match case.mode {
+            PLAIN => number == 24,
+            _ => number == 33,
+        };
+        let in_run = is_in_run(case, frame);
+        note(Thing::ReservedInRun, refused && in_run);
+        note(Thing::ReservedInGap, refused && !in_run);
+        note(Thing::ReservedBit13Alone, refused && reserved == 1);
+        note(
+            Thing::ReservedLastBitAlone,
+            refused && reserved == 1 << (low - 14),
+        );
+        note(Thing::LargeWide, number == 24 && reserved == 0);
+        note(Thing::LargeReserved, number == 33);
+        note(Thing::LargeReservedAndWide, number == 24 && reserved != 0);
     }
 
     pub fn print(&self) {

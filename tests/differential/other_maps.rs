@@ -15,7 +15,7 @@ pub struct OtherMap {
 }
 
 /// Numbers beside the codes of extents, and numbers that are no code for their size.
-const BESIDE_CODES: [u64; 15] = [
+const BESIDE_CODES: [u64; 14] = [
     0,
     4,
     5,
@@ -23,7 +23,6 @@ const BESIDE_CODES: [u64; 15] = [
     20,
     30,
     32,
-    33,
     35,
     37,
     64,

@@ -6,6 +6,7 @@ mod common {
 }
 mod ignored_bits;
 mod program_cases;
+mod reserved_bits;
 mod tables;
 
 use common::codes::{address_numbers, STATE_NOT_FOLLOWED};
@@ -70,7 +71,8 @@ fn read_arguments(
 
 fn all_runs(mut runs: Runs) -> io::Result<bool> {
     let groups = program_cases::groups().into_iter();
-    for group in groups.chain(ignored_bits::groups()) {
+    let groups = groups.chain(ignored_bits::groups());
+    for group in groups.chain(reserved_bits::groups()) {
         runs.write_case(&group.case)?;
         runs.answers(group.what, &group.stated)?;
     }

@@ -115,14 +115,15 @@ fn put_entries(memory: &mut Memory, start: u64, entries: &[u64]) -> u64 {
 fn upper_entry(memory: &mut Memory, level: u32) -> u64 {
     let page = memory.any_page();
     let frame = memory.frames[page];
-    match memory.random.below(6) {
+    match memory.random.below(7) {
         0 | 1 => memory.large(frame, level),
         2 => memory.large(frame, level) | memory.wide(),
         3 => {
             let outside = memory.frame_outside();
-            memory.table(outside, level)
+            memory.table(outside)
         }
-        4 => memory.table(frame, level) | memory.wide(),
+        4 => memory.table(frame) | memory.wide(),
+        5 => memory.reserved(frame, level),
         _ => memory.random.next() & !1,
     }
 }
@@ -132,7 +133,7 @@ fn entry_at(memory: &Memory, page: u64, level: u32) -> Option<u64> {
     let mut table = memory.directory;
     for upper in 1..level {
         let entry = memory.word(entry_offset(table, page, upper));
-        table = memory.table_in(entry, upper)?;
+        table = memory.table_in(entry)?;
     }
     Some(memory.word(entry_offset(table, page, level)))
 }

@@ -11,6 +11,7 @@ mod common {
     pub mod memory;
     pub mod print;
     pub mod random;
+    pub mod reserved;
     pub mod tally;
 }
 mod exports;
@@ -36,10 +37,11 @@ use common::codes::{
 };
 use common::many_runs::ByRuns;
 use common::print::{hex, with_commas};
+use common::reserved::{reserved_level, reserved_level_of_read, ByLevel};
 use common::tally::{print_table, Tally, LEAST_TIMES};
 use run_edges::{each_edge, Edge, EdgeTimes};
 use second::bytes;
-use second::slip::{Slip, FORM_SLIPS, WALK_SLIPS};
+use second::slip::{Slip, FORM_SLIPS, RESERVED_SLIPS, WALK_SLIPS};
 use second::walk::{self, word_at, Files, Place};
 use std::process::ExitCode;
 use walk_cases::{
@@ -68,7 +70,7 @@ const MOST_SHOWN: usize = 5;
 const GUARD: usize = 64;
 
 fn main() -> ExitCode {
-    let slips = [WALK_SLIPS, FORM_SLIPS].concat();
+    let slips = [WALK_SLIPS, RESERVED_SLIPS, FORM_SLIPS].concat();
     arguments::run("walks", 200_000, &slips, |arguments| {
         let mut comparison = Comparison::new(arguments.slip);
         let mut compare = |files: &CaseFiles, question: &Question| {
@@ -98,6 +100,8 @@ struct Comparison {
     read_by_runs: ByRuns,
     resolved_by_forms: FormTimes,
     read_by_forms: FormTimes,
+    resolved_reserved: ByLevel,
+    read_reserved: ByLevel,
     /// By the prototype entries followed: all answers of accepted cases, those found, those in the store.
     chains: [[u64; 3]; MOST_PROTOTYPES + 1],
     most_entries: u64,
@@ -119,6 +123,8 @@ impl Comparison {
             read_by_runs: ByRuns::new("read", read_numbers()),
             resolved_by_forms: FormTimes::new("resolve", &SHEET),
             read_by_forms: FormTimes::new("read", &SHEET),
+            resolved_reserved: ByLevel::new("resolve"),
+            read_reserved: ByLevel::new("read"),
             chains: [[0; 3]; MOST_PROTOTYPES + 1],
             most_entries: 0,
             edges: EdgeTimes::new(),
@@ -176,6 +182,8 @@ impl Comparison {
         self.resolved_by_runs.count(files.sheet, ours.number);
         self.resolved_by_forms
             .count(files.sheet, ours.number, ours.offset);
+        self.resolved_reserved
+            .count(ours.number, || reserved_level(files, address));
         self.most_entries = self.most_entries.max(ours.entries);
         let chain = ours.prototypes as usize;
         if !CASE_REFUSALS.contains(&ours.number) && chain <= MOST_PROTOTYPES {
@@ -235,6 +243,8 @@ impl Comparison {
         self.read_by_runs.count(files.sheet, ours.number);
         self.read_by_forms
             .count(files.sheet, ours.number, ours.length);
+        self.read_reserved
+            .count(ours.number, || reserved_level_of_read(files, start, n));
         [
             [theirs.number, theirs.length, theirs.zeros],
             [ours.number, ours.length, ours.zeros],
@@ -307,6 +317,7 @@ fn report(comparison: &Comparison, least_edge_times: u64) -> bool {
     comparison.read_by_runs.print();
     comparison.resolved_by_forms.print();
     comparison.read_by_forms.print();
+    ByLevel::print(&[&comparison.resolved_reserved, &comparison.read_reserved]);
     println!(
         "{:>6} {:>12} {:>12} {:>12}",
         "depth", "answers", "found", "in store"
@@ -340,6 +351,8 @@ fn reasons_to_fail(comparison: &Comparison, least_edge_times: u64) -> Vec<String
     reasons.extend(comparison.read_by_runs.reasons(&[0, 23]));
     reasons.extend(comparison.resolved_by_forms.reasons());
     reasons.extend(comparison.read_by_forms.reasons());
+    reasons.extend(comparison.resolved_reserved.reasons());
+    reasons.extend(comparison.read_reserved.reasons());
     for (chain, [_, found, stored]) in comparison.chains.iter().enumerate() {
         for (what, times) in [("found", found), ("in store", stored)] {
             if *times < LEAST_TIMES {

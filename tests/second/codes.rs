@@ -41,6 +41,8 @@ page_refusals! {
     UNALIGNED_PROTOTYPE = 29;
     /// The page is in the compressed store.
     PAGE_IN_STORE = 31;
+    /// A reserved bit of an upper entry is set.
+    RESERVED_BIT_SET = 33;
     /// A last-level entry of a 32-bit profile has a state that is not followed.
     STATE_NOT_FOLLOWED = 34;
 }

@@ -1,8 +1,8 @@
 //! Maps: the pages of a range written as extents, and an address looked up in them.
 
 use super::codes::{
-    has_page, is_code, refuses, IMAGE, NOT_CANONICAL, PAGEFILE, PAGE_IN_STORE, STATE_NOT_FOLLOWED,
-    UNALIGNED_PROTOTYPE, ZEROS,
+    has_page, is_code, refuses, IMAGE, NOT_CANONICAL, PAGEFILE, PAGE_IN_STORE, RESERVED_BIT_SET,
+    STATE_NOT_FOLLOWED, UNALIGNED_PROTOTYPE, ZEROS,
 };
 use super::number::{append, Fault, Numbers, Refusal, NUMBER_LIMIT, OUTSIDE_LIMITS};
 use super::sheet::{BYTES_AFTER_LAST_FIELD, FOUR_LEVEL};
@@ -52,6 +52,21 @@ pub struct Map {
     pub start_page: u64,
     pub pages: u64,
     pub extents: Vec<Extent>,
+}
+
+impl Map {
+    /// The addresses of the first and the last page of each extent with a code.
+    pub fn ends_with(&self, code: u64) -> Vec<u64> {
+        let mut ends = Vec::new();
+        let mut page = self.start_page;
+        for extent in &self.extents {
+            if extent.code == code {
+                ends.extend([page, page + extent.length - 1].map(page_address));
+            }
+            page += extent.length;
+        }
+        ends
+    }
 }
 
 /// The fault in judging where a range ends, if any.
@@ -566,7 +581,7 @@ fn is_listed(code: u64, slip: Slip) -> bool {
         Slip::CodeThirtyTaken if code == u64::from(UNALIGNED_PROTOTYPE) + 1 => true,
         Slip::CodeThirtyOneUnlisted if code == u64::from(PAGE_IN_STORE) => false,
         Slip::CodeThirtyTwoTaken if code == u64::from(PAGE_IN_STORE) + 1 => true,
-        Slip::CodeThirtyThreeTaken if code == u64::from(PAGE_IN_STORE) + 2 => true,
+        Slip::CodeThirtyThreeUnlisted if code == u64::from(RESERVED_BIT_SET) => false,
         Slip::CodeThirtyFourUnlisted if code == u64::from(STATE_NOT_FOLLOWED) => false,
         Slip::CodeThirtyFiveTaken if code == u64::from(STATE_NOT_FOLLOWED) + 1 => true,
         Slip::CodeThirtySevenTaken if code == u64::from(STATE_NOT_FOLLOWED) + 3 => true,

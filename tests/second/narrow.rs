@@ -1,14 +1,14 @@
 //! The walks of the 32-bit profiles: plain, of two levels with entries of 4 bytes, and PAE, of three with entries of 8.
 
 use super::super::codes::{
-    FRAME_IN_NO_RUN, FRAME_TOO_WIDE, NOT_CANONICAL, REGION_NEEDED, STATE_NOT_FOLLOWED,
-    TABLE_NOT_VALID,
+    FRAME_IN_NO_RUN, FRAME_TOO_WIDE, NOT_CANONICAL, REGION_NEEDED, RESERVED_BIT_SET,
+    STATE_NOT_FOLLOWED, TABLE_NOT_VALID,
 };
 use super::super::number::Refusal;
 use super::super::slip::Slip;
 use super::{
-    bits, is_canonical, is_set, word_at, Place, Walk, LARGE, NARROW_LIMIT, PAGE_BYTES, PROTOTYPE,
-    TRANSITION, VALID,
+    bits, is_canonical, is_set, word_at, Place, Upper, Walk, LARGE, NARROW_LIMIT, PAGE_BYTES,
+    PROTOTYPE, TRANSITION, VALID,
 };
 
 const PLAIN_ENTRY_BYTES: u64 = 4;
@@ -78,12 +78,14 @@ impl Walk<'_> {
         }
         let middle = entry_of(pae_frame(top, slip), start_below, middle_bits);
         let middle = self.narrow_entry(middle)?;
+        self.judge_reserved_early(middle, Upper::TwoMegabyte)?;
         self.judge_narrow_upper(middle, true)?;
         if is_set(middle, LARGE) && slip != Slip::TwoMegabyteBitIgnored {
             return self.two_megabyte_page(middle, address);
         }
         let table = pae_frame(middle, slip);
         self.judge_narrow_wide(middle, table, Slip::MiddleEntryWideTaken)?;
+        self.judge_reserved(middle, Upper::TwoMegabyte, table)?;
         let entry = self.narrow_entry(entry_of(table, start_below, last_bits))?;
         if slip == Slip::NarrowLargeAtLastLevel && is_set(entry, VALID) && is_set(entry, LARGE) {
             return self.two_megabyte_page(entry, address);
@@ -103,17 +105,19 @@ impl Walk<'_> {
         }
     }
 
-    /// 21, then 24, for one of the four top entries.
+    /// 21, then 24, then 33, for one of the four top entries.
     fn judge_pae_top(&mut self, entry: u64) -> Result<(), Refusal> {
         self.skip_top_in_count();
+        self.judge_reserved_early(entry, Upper::Top)?;
         self.judge_narrow_upper(entry, false)?;
         let frame = pae_frame(entry, self.slip);
         self.judge_narrow_wide(entry, frame, Slip::TopEntryWideTaken)?;
-        let reserved = bits(entry, 1, 2) | bits(entry, 5, 8);
-        if self.slip == Slip::TopEntryReservedJudged && reserved != 0 {
-            return Err(FRAME_TOO_WIDE);
+        // Intel reserves these bits too, and they say nothing here.
+        let others = bits(entry, 1, 2) | bits(entry, 5, 6) | bits(entry, 8, 8);
+        if self.slip == Slip::TopEntryOtherBitsReserved && others != 0 {
+            return Err(RESERVED_BIT_SET);
         }
-        Ok(())
+        self.judge_reserved(entry, Upper::Top, frame)
     }
 
     /// 20 for an address of 2^32 or more.
@@ -235,6 +239,7 @@ impl Walk<'_> {
         if reserved != 0 {
             return Err(match self.slip {
                 Slip::FourMegabyteReservedIs23 => FRAME_IN_NO_RUN,
+                Slip::FourMegabyteReservedIs33 => RESERVED_BIT_SET,
                 _ => FRAME_TOO_WIDE,
             });
         }
@@ -246,7 +251,7 @@ impl Walk<'_> {
     }
 
     /// Base from entry bits 21-47, the frame within the page from address bits 12-20.
-    fn two_megabyte_page(&self, entry: u64, address: u64) -> Result<Place, Refusal> {
+    fn two_megabyte_page(&mut self, entry: u64, address: u64) -> Result<Place, Refusal> {
         let base = bits(entry, 21, 47) << 9;
         let frame = match self.slip {
             Slip::TwoMegabyteLosesAddressBits => base,
@@ -255,9 +260,7 @@ impl Walk<'_> {
             _ => base | bits(address, 12, 20),
         };
         self.judge_narrow_wide(entry, frame, Slip::MiddleEntryWideTaken)?;
-        if self.slip == Slip::TwoMegabyteReservedJudged && bits(entry, 13, 20) != 0 {
-            return Err(FRAME_TOO_WIDE);
-        }
+        self.judge_reserved(entry, Upper::TwoMegabyte, frame)?;
         if self.slip == Slip::NarrowLargeRunAtBase {
             let page = self.image_page(base)?;
             return Ok(Place::Image(PAGE_BYTES * page + bits(address, 0, 20)));
@@ -268,6 +271,9 @@ impl Walk<'_> {
     /// A last-level entry: valid, in transition, or 34.
     fn narrow_page(&mut self, entry: u64, frame: u64, address: u64) -> Result<Place, Refusal> {
         if is_set(entry, VALID) {
+            if is_set(entry, LARGE) && self.slip == Slip::ReservedAtLastLevel {
+                return Err(RESERVED_BIT_SET);
+            }
             self.judge_narrow_wide(entry, frame, Slip::LastEntryWideTaken)?;
             return self.byte_in_frame(frame, address);
         }

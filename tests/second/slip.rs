@@ -218,6 +218,14 @@ slips! {
         FrameTakesHighBits
         PlaceInPageDropped
         LargeAtLevelOne
+        FirstLevelBit7Ignored
+        GigabyteReservedTaken
+        GigabyteReservedFromBit12
+        GigabyteReservedFromBit14
+        GigabyteReservedToBit20
+        GigabyteReservedToBit28
+        GigabyteReservedToBit30
+        ReservedInPrototypeEntry
         LargeAtLastLevel
         GigabyteBitIgnored
         LargeBitIgnored
@@ -321,6 +329,23 @@ slips! {
         ReadPositionDropped
     ;
 
+    /// The faults in judging reserved bits in modes 0 and 2 alike.
+    RESERVED_SLIPS:
+        ReservedNotKnown
+        ReservedIs24
+        ReservedBeforeWide
+        ReservedBeforeValid
+        ReservedAfterRun
+        ReservedOnTableEntry
+        ReservedAtLastLevel
+        ReservedEntryUncounted
+        TwoMegabyteReservedTaken
+        TwoMegabyteReservedFromBit12
+        TwoMegabyteReservedFromBit14
+        TwoMegabyteReservedToBit19
+        TwoMegabyteReservedToBit21
+    ;
+
     /// The faults in the walks of modes 1 and 2, and in the calls over them.
     NARROW_SLIPS:
         PlainEntryReadAs8Bytes
@@ -343,6 +368,7 @@ slips! {
         FourMegabyteTakenAs2MiB
         FourMegabyteReservedTaken
         FourMegabyteReservedIs23
+        FourMegabyteReservedIs33
         FourMegabyteReservedAfterRun
         FourMegabyteReservedFromBit12
         FourMegabyteReservedFromBit14
@@ -351,10 +377,10 @@ slips! {
         TwoMegabyteBitIgnored
         TwoMegabyteLosesAddressBits
         TwoMegabyteTakenAs4MiB
-        TwoMegabyteReservedJudged
         TwoMegabyteTakesLowBaseBits
         TopEntryLarge
-        TopEntryReservedJudged
+        TopEntryOtherBitsReserved
+        TopEntryBit7Ignored
         TopEntryWideTaken
         MiddleEntryWideTaken
         LastEntryWideTaken
@@ -480,7 +506,7 @@ slips! {
         CodeThirtyTaken
         CodeThirtyOneUnlisted
         CodeThirtyTwoTaken
-        CodeThirtyThreeTaken
+        CodeThirtyThreeUnlisted
         CodeThirtyFourUnlisted
         CodeThirtyFiveTaken
         CodeThirtySevenTaken

@@ -5,8 +5,8 @@ mod narrow;
 
 use super::codes::{
     BACKED_BY_FILE, FOURTH_PROTOTYPE, FRAME_IN_NO_RUN, FRAME_TOO_WIDE, IMAGE, NOT_CANONICAL,
-    OTHER_PAGEFILE, PAGEFILE, PAGE_IN_STORE, PAST_PAGEFILE, REGION_NEEDED, TABLE_NOT_VALID,
-    UNALIGNED_PROTOTYPE, ZEROS,
+    OTHER_PAGEFILE, PAGEFILE, PAGE_IN_STORE, PAST_PAGEFILE, REGION_NEEDED, RESERVED_BIT_SET,
+    TABLE_NOT_VALID, UNALIGNED_PROTOTYPE, ZEROS,
 };
 use super::number::{Fault, Refusal};
 use super::sheet::{check_sheet, Case, FOUR_LEVEL, PLAIN};
@@ -43,6 +43,28 @@ impl Files<'_> {
         Files {
             pagefile: &self.pagefile[..self.pagefile.len() - rest],
             ..self
+        }
+    }
+}
+
+/// The entries above the last level in modes 0 and 2, by what bit 7 makes of them.
+#[derive(Clone, Copy, PartialEq)]
+enum Upper {
+    /// The directory's entries in mode 0.
+    First,
+    /// The four top entries in mode 2.
+    Top,
+    Gigabyte,
+    TwoMegabyte,
+}
+
+impl Upper {
+    /// At a level of mode 0.
+    fn at(level: u32) -> Self {
+        match level {
+            1 => Upper::First,
+            2 => Upper::Gigabyte,
+            _ => Upper::TwoMegabyte,
         }
     }
 }
@@ -183,6 +205,8 @@ impl<'a> Walk<'a> {
         };
         for level in 1..LAST_LEVEL {
             let entry = self.table_entry(table, level, address)?;
+            let upper = Upper::at(level);
+            self.judge_reserved_early(entry, upper)?;
             self.judge_upper_valid(entry, level)?;
             let large = is_large(entry, level, self.slip);
             let frame = if large {
@@ -191,6 +215,7 @@ impl<'a> Walk<'a> {
                 frame_of(entry, self.slip)
             };
             self.judge_wide(entry, frame, large)?;
+            self.judge_reserved(entry, upper, frame)?;
             if large && self.slip == Slip::LargePageRunAtBase {
                 return self.byte_from_base(entry, level, address);
             }
@@ -320,6 +345,33 @@ impl<'a> Walk<'a> {
         Ok(())
     }
 
+    /// 33 for a valid entry above the last level with a reserved bit set, whether or not its frame is in a run.
+    fn judge_reserved(&mut self, entry: u64, upper: Upper, frame: u64) -> Result<(), Refusal> {
+        if !has_reserved(entry, upper, self.slip) {
+            return Ok(());
+        }
+        match self.slip {
+            Slip::ReservedAfterRun => drop(self.image_page(frame)?),
+            Slip::ReservedEntryUncounted => drop(self.consulted.pop()),
+            Slip::ReservedIs24 => return Err(FRAME_TOO_WIDE),
+            _ => {}
+        }
+        Err(RESERVED_BIT_SET)
+    }
+
+    /// For slips: the same before the entry is judged otherwise.
+    fn judge_reserved_early(&mut self, entry: u64, upper: Upper) -> Result<(), Refusal> {
+        let early = match self.slip {
+            Slip::ReservedBeforeWide => is_set(entry, VALID),
+            Slip::ReservedBeforeValid => true,
+            _ => false,
+        };
+        match early {
+            true => self.judge_reserved(entry, upper, 0),
+            false => Ok(()),
+        }
+    }
+
     /// Steps 1 to 6 for a last-level entry.
     fn judge_last_level(
         &mut self,
@@ -327,6 +379,9 @@ impl<'a> Walk<'a> {
         address: u64,
         prototypes: u32,
     ) -> Result<Place, Refusal> {
+        if is_set(entry, VALID) && is_set(entry, LARGE) && self.slip == Slip::ReservedAtLastLevel {
+            return Err(RESERVED_BIT_SET);
+        }
         if is_set(entry, VALID) {
             return self.valid_page(entry, address);
         }
@@ -356,6 +411,10 @@ impl<'a> Walk<'a> {
 
     /// The rule for the entry that a prototype address led to.
     fn judge_prototype_entry(&self, entry: u64, address: u64) -> Result<Place, Refusal> {
+        let reserved = is_set(entry, LARGE) && self.slip == Slip::ReservedInPrototypeEntry;
+        if is_set(entry, VALID) && reserved {
+            return Err(RESERVED_BIT_SET);
+        }
         if is_set(entry, VALID) {
             return self.valid_page(entry, address);
         }
@@ -556,6 +615,46 @@ fn is_large(entry: u64, level: u32, slip: Slip) -> bool {
         _ => level == 2 || level == 3,
     };
     at_level && is_set(entry, LARGE)
+}
+
+/// Bit 7 itself where it makes no large page; where it does, any of the bits from 13 up to the page's base.
+fn has_reserved(entry: u64, upper: Upper, slip: Slip) -> bool {
+    let asked = is_set(entry, LARGE) || slip == Slip::ReservedOnTableEntry;
+    let ignored = match slip {
+        Slip::ReservedNotKnown => true,
+        Slip::FirstLevelBit7Ignored | Slip::LargeAtLevelOne => upper == Upper::First,
+        Slip::TopEntryBit7Ignored | Slip::TopEntryLarge => upper == Upper::Top,
+        Slip::GigabyteReservedTaken => upper == Upper::Gigabyte,
+        Slip::TwoMegabyteReservedTaken => upper == Upper::TwoMegabyte,
+        _ => false,
+    };
+    let reserved = match upper {
+        Upper::First | Upper::Top => bits(entry, LARGE, LARGE),
+        Upper::Gigabyte => gigabyte_reserved(entry, slip),
+        Upper::TwoMegabyte => two_megabyte_reserved(entry, slip),
+    };
+    asked && !ignored && reserved != 0
+}
+
+fn gigabyte_reserved(entry: u64, slip: Slip) -> u64 {
+    match slip {
+        Slip::GigabyteReservedFromBit12 => bits(entry, 12, 29),
+        Slip::GigabyteReservedFromBit14 => bits(entry, 14, 29),
+        Slip::GigabyteReservedToBit20 => bits(entry, 13, 20),
+        Slip::GigabyteReservedToBit28 => bits(entry, 13, 28),
+        Slip::GigabyteReservedToBit30 => bits(entry, 13, 30),
+        _ => bits(entry, 13, 29),
+    }
+}
+
+fn two_megabyte_reserved(entry: u64, slip: Slip) -> u64 {
+    match slip {
+        Slip::TwoMegabyteReservedFromBit12 => bits(entry, 12, 20),
+        Slip::TwoMegabyteReservedFromBit14 => bits(entry, 14, 20),
+        Slip::TwoMegabyteReservedToBit19 => bits(entry, 13, 19),
+        Slip::TwoMegabyteReservedToBit21 => bits(entry, 13, 21),
+        _ => bits(entry, 13, 20),
+    }
 }
 
 /// 30 at level two, 21 at level three.
