@@ -103,6 +103,12 @@ static const char *const explanations[] = {
         "pagefile has it as a page: what the pagefile holds at the place that the entry seems to name belongs to another page, "
         "or to none, and is not shown. Take it from the store with a tool that unpacks it; a map made by a reader without this "
         "number may name such a false place, and is to be made again.",
+    [GLINT_RESERVED_BIT_SET] =
+        "A valid entry above the last level has a bit set that Intel reserves: bit 7 in the first level, one of bits 13 to 29 in "
+        "the entry of a 1 GiB page, or one of bits 13 to 20 in that of a 2 MiB page. No processor follows such an entry, so it "
+        "is damaged, or what was read as a table is none, as behind a wrong directory page. Check the directory page and the "
+        "profile; other addresses may still be answered. A map made by a reader without this number may name a place here that "
+        "holds nothing of the page, and is to be made again.",
     [GLINT_STATE_NOT_FOLLOWED] =
         "The last-level entry of the address is neither valid nor in transition, and of the tables of 32-bit machines no other "
         "state is followed: the page may be in a pagefile, behind a prototype entry, one of zeros, or none. No byte is shown "
@@ -120,7 +126,7 @@ static const char *const explanations[] = {
     [GLINT_OUTSIDE_MAP] =
         "The map is sound, but its range does not have the address. Ask resolve, or make a map of a range that has it.",
     [GLINT_BAD_EXTENT] =
-        "An extent of the map breaks the layout: a code other than 1, 2, 3, 21 to 29, 31 and 34, a length of 0, pages past "
+        "An extent of the map breaks the layout: a code other than 1, 2, 3, 21 to 29, 31, 33 and 34, a length of 0, pages past "
         "2^36 of the file, an extent that belongs to the one before, or lengths that sum to more than the page count. The map is "
         "damaged, or a later reader wrote it that has more codes. Make it again with map.",
     [GLINT_MAP_BUFFER_SHORT] =

@@ -28,7 +28,7 @@ extern "C" {
 /* The version of this header. MAJOR, which the shared library's name carries, moves where a program that was compiled with
  * an older header could no longer run; MINOR where only something was added; PATCH where the header stays. */
 #define GLINT_VERSION_MAJOR 3
-#define GLINT_VERSION_MINOR 0
+#define GLINT_VERSION_MINOR 1
 #define GLINT_VERSION_PATCH 0
 
 /* What the number of an answer is about. */
@@ -70,6 +70,7 @@ enum glint_kind {
     X(PROTOTYPE_CHAIN_TOO_LONG, 28, ADDRESS, "a fourth prototype entry would be needed")        \
     X(PROTOTYPE_UNALIGNED, 29, ADDRESS, "prototype address not a multiple of 8")                \
     X(PAGE_IN_STORE, 31, ADDRESS, "page is in the compressed store")                            \
+    X(RESERVED_BIT_SET, 33, ADDRESS, "reserved bit of an upper page table entry set")           \
     X(STATE_NOT_FOLLOWED, 34, ADDRESS, "entry of a 32-bit profile in a state not followed")     \
     X(MODE_NOT_SERVED, 37, CALL, "processor block or list asked of a 32-bit profile")           \
     X(BAD_MAP_RANGE, 40, CALL, "map range wrong")                                               \
@@ -141,7 +142,7 @@ typedef struct { uint64_t number, length; } glint_written;
  * directory: the frame of the top table; mode: one of enum glint_mode; place: the directory's in that frame; length: runs. */
 typedef struct { uint64_t number, directory, mode, place, length; } glint_case_read;
 
-/* number: 1, 2, 3, 21 to 29, 31 or 34 as the map has it, or a refusal of the lookup; offset: for 1 and 2 the addressed
+/* number: 1, 2, 3, 21 to 29, 31, 33 or 34 as the map has it, or a refusal of the lookup; offset: for 1 and 2 the addressed
  * byte's, for 11 and 18 the position, else 0. */
 typedef struct { uint64_t number, offset; } glint_found;
 
@@ -181,9 +182,10 @@ glint_time_answer glint_read_time(const uint8_t *sheet, size_t sheet_length, con
 
 /* The map of `pages` pages (1 to 2^20) from `start` (a multiple of 4,096) on into `out`, all in one half of the addresses or,
  * of a 32-bit profile, below 2^32; else 40. 44 exactly if it is longer than `out`. Bytes past the map stay. A library without
- * number 31 took a page of the compressed store for one of the pagefile: its maps may name places of the pagefile that hold
- * nothing of the page, and are to be made again. It says 43 to a map with code 31, as one without number 34 does to a map
- * with code 34; a map without such a page has the same bytes by all, and each reads it. */
+ * number 31 took a page of the compressed store for one of the pagefile, and one without number 33 went on behind an entry
+ * with a reserved bit: their maps are still read, may name places that hold nothing of the page, and are to be made again.
+ * Either says 43 to a map with the code that it lacks, as one without number 34 does to a map with code 34; a map without
+ * such a page has the same bytes by all, and each reads it. */
 glint_written glint_map(const uint8_t *sheet, size_t sheet_length, const uint8_t *image, size_t image_length,
                         const uint8_t *pagefile, size_t pagefile_length, uint64_t start, uint64_t pages,
                         uint8_t *out, size_t out_length);

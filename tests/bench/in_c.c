@@ -21,6 +21,7 @@ enum {
     REGION_NEEDED = 22,
     FRAME_IN_NO_RUN = 23,
     FRAME_TOO_WIDE = 24,
+    RESERVED_BIT_SET = 33,
     STATE_NOT_FOLLOWED = 34,
     MODE_NOT_SERVED = 37,
     BAD_MAP_RANGE = 40,
@@ -191,7 +192,10 @@ static glint_answer walk_pae(const struct world *w, uint64_t a) {
         }
         frame = entry >> 12 & 0xFFFFFFFFF;
         if (low == 12) return in_frame(w, frame, a, entries);
-        if (low == 21 && (entry & 128)) return in_frame(w, (frame & ~(uint64_t)511) | (a >> 12 & 511), a, entries);
+        if (entry & 128) {
+            if (low == 30 || (frame & 510)) return refused(RESERVED_BIT_SET, entries);
+            return in_frame(w, (frame & ~(uint64_t)511) | (a >> 12 & 511), a, entries);
+        }
     }
 }
 
@@ -207,8 +211,10 @@ static glint_answer walk_four_level(const struct world *w, uint64_t a) {
         if (entry >> 48 & 15) return refused(FRAME_TOO_WIDE, entries);
         frame = entry >> 12 & 0xFFFFFFFFF;
         if (low == 12) break;
-        if ((entry & 128) && low < 39) {
+        if (entry & 128) {
             uint64_t small = ((uint64_t)1 << (low - 12)) - 1;
+            /* The first bit of the frame is PAT. */
+            if (low == 39 || (frame & small & ~(uint64_t)1)) return refused(RESERVED_BIT_SET, entries);
             frame = (frame & ~small) | (a >> 12 & small);
             break;
         }

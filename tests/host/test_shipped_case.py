@@ -8,6 +8,14 @@ from program import ROOT, HostTest
 MOST_BYTES = 65536
 
 
+def with_bit(image, runs, physical, bit):
+    """The image with a bit set in the entry at a physical address."""
+    frames = [first + k for first, pages in runs for k in range(pages)]
+    changed = bytearray(image)
+    changed[frames.index(physical // PAGE) * PAGE + physical % PAGE + bit // 8] |= 1 << bit % 8
+    return bytes(changed)
+
+
 class ShippedCase(HostTest):
     def setUp(self):
         super().setUp()
@@ -62,6 +70,27 @@ class ShippedCase(HostTest):
             self.assertEqual(self.library.resolve(case, make_case.STORED), (31, 0, 4))
             self.assertEqual(self.library.page(case, make_case.STORED), (0, 0, 0))
             self.assertEqual(self.library.read(case, make_case.STORED, 8), (31, b"", 0))
+
+    def test_reserved_bits(self):
+        """With a reserved bit an entry on the way is refused, in mode 0 and in mode 2; bits 12 and 63 of a large page are none."""
+        pae = make_case.PAE
+        pae_case = [pae.sheet(), pae.image(), pae.pagefile()]
+        for case, runs, entry, bits, address, answer in (
+            (self.case, make_case.RUNS, 0x323EF000, (7,), 0xB3A010, (33, 0, 1)),
+            (self.case, make_case.RUNS, 0x31AC0010, range(13, 30), 0xA318E456, (33, 0, 2)),
+            (self.case, make_case.RUNS, 0x07F84030, range(13, 21), 0xCC0123, (33, 0, 3)),
+            (self.case, make_case.RUNS, 0x07F84030, range(13, 21), 0xC00000, (33, 0, 3)),
+            (self.case, make_case.RUNS, 0x31AC0010, (12, 63), 0xA318E456, (1, 21590, 2)),
+            (self.case, make_case.RUNS, 0x07F84030, (12, 63), 0xCC0123, (1, 41251, 3)),
+            (pae_case, pae.runs, 0x07600838, (7,), 0xC2E61940, (33, 0, 1)),
+            (pae_case, pae.runs, 0x0DA6B100, range(13, 21), 0xC4000838, (33, 0, 2)),
+            (pae_case, pae.runs, 0x0DA6B100, (12, 63), 0xC4000838, (1, 6200, 2)),
+        ):
+            for bit in bits:
+                damaged = [case[0], with_bit(case[1], runs, entry, bit), case[2]]
+                self.assertEqual(self.library.resolve(damaged, address), answer, (hex(entry), bit))
+                number, content = self.library.map(damaged, address // PAGE * PAGE, 1)
+                self.assertEqual((number, self.library.lookup(content, address)), (0, answer[:2]))
 
     def test_record_without_the_pagefile(self):
         for pagefile in (b"", bytes(PAGE)):
