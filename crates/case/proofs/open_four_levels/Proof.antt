@@ -26,7 +26,9 @@ same-length-2 : tie.Need-same-length-2
 same-length-2 c = search needs
 
 returns-2 : tie.Need-returns-2
-returns-2 c = four-ready _ _ _ _ _ _ (c .before .before .before .before .before .before .open-case .ensures) (c .before .before .space .given .1) _ (c .served .ensures)
+returns-2 c =
+    let at-open = c .before .before .before .before .before .before in
+    four-ready _ _ _ _ _ _ (at-open .open-case .ensures) (c .before .before .space .given .1) _ (c .served .ensures)
 
 pub open-four-levels-spec : {M : Type 1} → statement M
 open-four-levels-spec =

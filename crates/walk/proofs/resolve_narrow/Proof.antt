@@ -47,25 +47,38 @@ enum-told-2 c = search needs
 
 returns-2 : tie.Need-returns-2
 returns-2 c =
-    let args = c .before .before .before .before .before .before .before .before .before .before .before .before .before .args in
+    let at-descent = c .before .before .before .before in
+    let at-test = at-descent .before .before .before in
+    let at-mode = at-test .before .before in
+    let start = at-mode .before .before .before .before in
+    let args = start .args in
     let world = rowsWorld (now (args .rows)) (args .space) (now (args .image)) (now (args .pagefile)) in
-    settled-entry 3 world _ (taken-reach (args .space .mode) _ _ _ _ (c .before .before .before .before .before .before .before .before .before .placed-mode .ensures) (c .before .before .before .before .before .before .before .before .is-reachable .ensures) (not-false _ (c .before .before .before .before .before .before .before .if1 .left))) _
-    (taken-descent (now (args .rows)) (now (args .image)) (now (args .pagefile)) (args .space) _ _ (args .address) _ (c .before .before .before .before .before .before .before .before .before .placed-mode .ensures) (c .before .before .before .before .before .locate .ensures) (c .before .before .before .before .descend .ensures)) _ _ (c .before .before .leaf .given .1) (c .settle .ensures)
+    let reached = taken-reach (args .space .mode) _ _ _ _ (at-mode .placed-mode .ensures) (at-test .before .is-reachable .ensures) (not-false _ (at-test .if1 .left)) in
+    let descent = taken-descent (now (args .rows)) (now (args .image)) (now (args .pagefile)) (args .space) _ _ (args .address) _ (at-mode .placed-mode .ensures)
+        (at-descent .before .locate .ensures) (at-descent .descend .ensures) in
+    settled-entry 3 world _ reached _ descent _ _ (c .before .before .leaf .given .1) (c .settle .ensures)
 
 returns-3 : tie.Need-returns-3
 returns-3 c =
-    let args = c .before .before .before .before .before .before .before .before .before .before .before .args in
+    let at-descent = c .before .before in
+    let at-test = at-descent .before .before .before in
+    let at-mode = at-test .before .before in
+    let start = at-mode .before .before .before .before in
+    let args = start .args in
     let world = rowsWorld (now (args .rows)) (args .space) (now (args .image)) (now (args .pagefile)) in
-    needs-region 3 world _ (taken-reach (args .space .mode) _ _ _ _ (c .before .before .before .before .before .before .before .placed-mode .ensures) (c .before .before .before .before .before .before .is-reachable .ensures) (not-false _ (c .before .before .before .before .before .if1 .left))) _
-    (taken-descent (now (args .rows)) (now (args .image)) (now (args .pagefile)) (args .space) _ _ (args .address) _ (c .before .before .before .before .before .before .before .placed-mode .ensures) (c .before .before .before .locate .ensures) (c .before .before .descend .ensures)) (c .enum-told .given .1)
+    let reached = taken-reach (args .space .mode) _ _ _ _ (at-mode .placed-mode .ensures) (at-test .before .is-reachable .ensures) (not-false _ (at-test .if1 .left)) in
+    let descent = taken-descent (now (args .rows)) (now (args .image)) (now (args .pagefile)) (args .space) _ _ (args .address) _ (at-mode .placed-mode .ensures)
+        (at-descent .before .locate .ensures) (at-descent .descend .ensures) in
+    needs-region 3 world _ reached _ descent (c .enum-told .given .1)
 
 returns-4 : tie.Need-returns-4
 returns-4 c =
-    let start = c .before .before .before .before .before .before .before .before .before .before .before in
-    let mode = c .before .before .before .before .before .before .before .placed-mode .result in
-    let narrow = subst (λ (m : PagingMode). Narrow m) (sym (c .before .before .before .before .before .before .before .placed-mode .ensures)) (placed-narrow (start .args .space .mode) (start .pre)) in
+    let at-descent = c .before .before in
+    let at-mode = at-descent .before .before .before .before .before in
+    let start = at-mode .before .before .before .before in
+    let narrow = subst (λ (m : PagingMode). Narrow m) (sym (at-mode .placed-mode .ensures)) (placed-narrow (start .args .space .mode) (start .pre)) in
     let page = rowsPage (now (start .args .rows)) (length (now (start .args .image))) in
-    absurd (narrow-never mode narrow page (now (start .args .image)) (start .args .address) _ _ _ _ _ (c .before .before .descend .ensures) (c .enum-told2 .given .1))
+    absurd (narrow-never (at-mode .placed-mode .result) narrow page (now (start .args .image)) (start .args .address) _ _ _ _ _ (at-descent .descend .ensures) (c .enum-told2 .given .1))
 
 pub resolve-narrow-spec : {M : Type 1} → statement M
 resolve-narrow-spec =
