@@ -104,11 +104,11 @@ static const char *const explanations[] = {
         "or to none, and is not shown. Take it from the store with a tool that unpacks it; a map made by a reader without this "
         "number may name such a false place, and is to be made again.",
     [GLINT_RESERVED_BIT_SET] =
-        "A valid entry above the last level has a bit set that Intel reserves: bit 7 in the first level, one of bits 13 to 29 in "
-        "the entry of a 1 GiB page, or one of bits 13 to 20 in that of a 2 MiB page. No processor follows such an entry, so it "
-        "is damaged, or what was read as a table is none, as behind a wrong directory page. Check the directory page and the "
-        "profile; other addresses may still be answered. A map made by a reader without this number may name a place here that "
-        "holds nothing of the page, and is to be made again.",
+        "A valid entry above the last level has a bit set that Intel reserves: bit 7 in the first level, one of bits 13 to "
+        "29 in the entry of a 1 GiB page, or one of bits 13 to 20 in that of a 2 MiB page. No processor follows such an "
+        "entry, so it is damaged, or what was read as a table is none, as behind a wrong directory page. Check the "
+        "directory page and the profile, and make maps anew that a reader without this number made: they may name a "
+        "place here that holds nothing of the page.",
     [GLINT_STATE_NOT_FOLLOWED] =
         "The last-level entry of the address is neither valid nor in transition, and of the tables of 32-bit machines no other "
         "state is followed: the page may be in a pagefile, behind a prototype entry, one of zeros, or none. No byte is shown "
