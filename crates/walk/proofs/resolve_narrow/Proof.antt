@@ -55,7 +55,7 @@ returns-2 c =
     let world = rowsWorld (now (args .rows)) (args .space) (now (args .image)) (now (args .pagefile)) in
     let reached = taken-reach (args .space .mode) _ _ _ _ (at-mode .placed-mode .ensures) (at-test .before .is-reachable .ensures) (not-false _ (at-test .if1 .left)) in
     let descent = taken-descent (now (args .rows)) (now (args .image)) (now (args .pagefile)) (args .space) _ _ (args .address) _ (at-mode .placed-mode .ensures)
-        (at-descent .before .locate .ensures) (at-descent .descend .ensures) in
+    (at-descent .before .locate .ensures) (at-descent .descend .ensures) in
     settled-entry 3 world _ reached _ descent _ _ (c .before .before .leaf .given .1) (c .settle .ensures)
 
 returns-3 : tie.Need-returns-3
@@ -68,7 +68,7 @@ returns-3 c =
     let world = rowsWorld (now (args .rows)) (args .space) (now (args .image)) (now (args .pagefile)) in
     let reached = taken-reach (args .space .mode) _ _ _ _ (at-mode .placed-mode .ensures) (at-test .before .is-reachable .ensures) (not-false _ (at-test .if1 .left)) in
     let descent = taken-descent (now (args .rows)) (now (args .image)) (now (args .pagefile)) (args .space) _ _ (args .address) _ (at-mode .placed-mode .ensures)
-        (at-descent .before .locate .ensures) (at-descent .descend .ensures) in
+    (at-descent .before .locate .ensures) (at-descent .descend .ensures) in
     needs-region 3 world _ reached _ descent (c .enum-told .given .1)
 
 returns-4 : tie.Need-returns-4
