@@ -130,7 +130,7 @@ fn descend_four(rows: &[u64], image: &[u8], top: ImagePage, address: u64) -> Des
             }
             EntryRead::Entry(e) => {
                 entries += 1;
-                match entry::upper_entry(entry::four_level_at(below), e) {
+                match upper_entries::upper_entry(levels::four_level_at(below), e) {
                     Upper::UpperNeedsRegion => {
                         return ended(Leaf::NeedsRegion, entries);
                     }
@@ -150,7 +150,7 @@ fn descend_four(rows: &[u64], image: &[u8], top: ImagePage, address: u64) -> Des
     }
     match table_entry(image, table, 0, address) {
         EntryRead::NoTable => no_table(entries),
-        EntryRead::Entry(e) => ended(entry::last_entry(e), entries + 1),
+        EntryRead::Entry(e) => ended(last_entries::last_entry(e), entries + 1),
     }
 }
 
@@ -242,7 +242,7 @@ fn descend(rows: &[u64], image: &[u8], mode: PagingMode, top: ImagePage, address
     let size = image.len() as u64;
     let mut table = top;
     let mut offset = top_offset(mode);
-    let mut below = entry::levels_below(mode);
+    let mut below = levels::levels_below(mode);
     let mut entries = 0;
     while 0 < below {
         match table_entry_in(image, mode, below, offset, table, address) {
@@ -251,8 +251,8 @@ fn descend(rows: &[u64], image: &[u8], mode: PagingMode, top: ImagePage, address
             }
             EntryRead::Entry(e) => {
                 entries = entries + 1;
-                let level = entry::level_at(mode, below);
-                match next_table(rows, size, entry::upper_entry(level, e)) {
+                let level = levels::level_at(mode, below);
+                match next_table(rows, size, upper_entries::upper_entry(level, e)) {
                     Step::Ended(leaf) => {
                         return ended(leaf, entries);
                     }
@@ -267,7 +267,7 @@ fn descend(rows: &[u64], image: &[u8], mode: PagingMode, top: ImagePage, address
     }
     match table_entry_in(image, mode, 0, offset, table, address) {
         EntryRead::NoTable => no_table(entries),
-        EntryRead::Entry(e) => ended(entry::last_entry_in(mode, e), entries + 1),
+        EntryRead::Entry(e) => ended(last_entries::last_entry_in(mode, e), entries + 1),
     }
 }
 
@@ -439,7 +439,7 @@ fn prototype(
     if is_refused(at) {
         return found;
     }
-    let rest = entry::prototype_entry(word_at_place(image, pagefile, at));
+    let rest = last_entries::prototype_entry(word_at_place(image, pagefile, at));
     let place = settle(rows, image, pagefile, address, rest);
     Resolved {
         place,
