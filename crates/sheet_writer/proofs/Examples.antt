@@ -7,7 +7,7 @@ use Rattle.base.specs.Example.{Example, same, Hold}
 use Rattle.base.specs.Written.{WriteOutcome, unwritten}
 use Rattle.base.specs.declared.Refusal.the-variants.{SheetBufferShort}
 use Rattle.varint.specs.Groups.{encode}
-use Rattle.sheet_writer.specs.Write.{inLimits, joinedBefore, headerBytes, runBytes, sheetBytes}
+use Rattle.sheet_limits.specs.Write.{inLimits, joinedBefore, headerBytes, runBytes, sheetBytes}
 use Rattle.sheet_writer.specs.Call.{writeSheet}
 
 -- ---- P1: 0x1000 for 0x9E000 bytes, 0x100000 for 0x3FEF0000 bytes

@@ -18,12 +18,14 @@ use Rattle.entry.specs.declared.PagingMode.{PagingMode}
 use Rattle.sheet.specs.Sheet.{isPlace, pagingMode}
 use Rattle.sheet.specs.declared.Header.{Header}
 use Rattle.sheet.proofs.Modes.{in-page}
-use Rattle.sheet_writer.specs.Write.{inLimits, runsOf, inOrder, joinedRuns, soundRuns}
+use Rattle.sheet_limits.specs.Write.{inLimits, runsOf, inOrder, joinedRuns, soundRuns}
+use Rattle.sheet_limits.proofs.Limits.{in-mode, limits}
+use Rattle.joined_runs.specs.Inner.{countedRuns}
+use Rattle.joined_runs.specs.declared.Judged.{Judged}
+use Rattle.joined_runs.specs.declared.Judged.the-variants.{Runs, Refused}
+use Rattle.sheet_bytes.specs.Inner.{writtenSheet, Ready}
 use Rattle.sheet_writer.specs.Call.{givenSheet, sheetOutcome, writeSheet, WriteAnswer}
-use Rattle.sheet_writer.specs.Inner.{countedRuns, judgedOf, writtenSheet, Ready}
-use Rattle.sheet_writer.specs.declared.Judged.{Judged}
-use Rattle.sheet_writer.specs.declared.Judged.the-variants.{Runs, Refused}
-use Rattle.sheet_writer.proofs.Limits.{in-mode, limits}
+use Rattle.sheet_writer.specs.Inner.{judgedOf}
 use Rattle.sheet_writer.proofs.Whole.{promise}
 
 module _ (directory mode place : ℕ) (starts lengths : List ℕ) where

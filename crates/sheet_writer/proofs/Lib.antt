@@ -1,9 +1,5 @@
-pub mod Joining
 pub mod ReadBack
-pub mod Lengths
-pub mod Limits
-pub mod Counting
-pub mod Writing
+pub mod Passes
 pub mod Whole
 pub mod Judging
 pub mod Examples

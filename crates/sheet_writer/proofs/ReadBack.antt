@@ -29,7 +29,7 @@ use Rattle.sheet.proofs.Modes.{mode-again, mode-most, place-again, place-most, 
 use Rattle.sheet.proofs.HeaderFields.{ModeField, none, two, header-parts}
 use Rattle.sheet.proofs.OneRun.{Follows, run-read}
 use Rattle.sheet.proofs.AcceptedCase.{Chain, runs-chain, sheet-parts, accepted-laws}
-use Rattle.sheet_writer.specs.Write.{writable, editionOf, modeBytes, headerBytes, runBytes, runsBytes, sheetBytes}
+use Rattle.sheet_limits.specs.Write.{writable, editionOf, modeBytes, headerBytes, runBytes, runsBytes, sheetBytes}
 
 -- a sheet that keeps the rules
 pub record Keeps (t : Sheet) : Type 0 where

@@ -21,10 +21,11 @@ use Rattle.sheet.specs.Sheet.{modeNumber, placeOf, isPlace, runPages, Sheet, sh
 use Rattle.sheet.specs.declared.Run.{Run}
 use Rattle.sheet.proofs.Modes.{mode-again, mode-most, place-again, in-page}
 use Rattle.sheet.proofs.AcceptedCase.{Chain}
-use Rattle.sheet_writer.specs.Write.{allBelow, isMode, inLimits, runsOf, startsOf, lengthsOf, inOrder, soundRuns, sheetBytes}
+use Rattle.sheet_limits.specs.Write.{allBelow, isMode, inLimits, runsOf, startsOf, lengthsOf, inOrder, soundRuns, sheetBytes}
+use Rattle.sheet_limits.proofs.Limits.{but-lengths, in-mode, limits}
+use Rattle.joined_runs.proofs.Joining.{joined-chain, joined-most, joined-some, chain-order, chain-joined}
+use Rattle.joined_runs.proofs.GivenRuns.{runs-length}
 use Rattle.sheet_writer.specs.Call.{givenSheet, sheetOutcome, writeSheet, AreBytes, WriteAnswer}
-use Rattle.sheet_writer.proofs.Joining.{joined-chain, joined-most, joined-some, chain-order, chain-joined}
-use Rattle.sheet_writer.proofs.Limits.{but-lengths, in-mode, limits, runs-length}
 use Rattle.sheet_writer.proofs.ReadBack.{Keeps, sheet-reads, sheet-form}
 
 -- ---- the runs of an accepted sheet, given again

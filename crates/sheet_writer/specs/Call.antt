@@ -12,7 +12,7 @@ use Rattle.base.specs.declared.Written.{Written}
 use Rattle.varint.specs.Reader.{got}
 use Rattle.entry.specs.Pages.{frame}
 use Rattle.sheet.specs.Sheet.{modeNumber, placeOf, pagingMode, runPages, Sheet, sheetOf}
-use Rattle.sheet_writer.specs.Write.{inLimits, runsOf, startsOf, lengthsOf, soundRuns, joinedRuns, sheetBytes}
+use Rattle.sheet_limits.specs.Write.{inLimits, runsOf, startsOf, lengthsOf, soundRuns, joinedRuns, sheetBytes}
 
 -- what is written: the directory page and its paging mode, and the given runs with those that touch joined
 abbrev pub givenSheet : ℕ → ℕ → ℕ → List ℕ → List ℕ → Sheet

@@ -2,7 +2,7 @@
 use mathlib.Core.Path.{sym, _∙_}
 use borrow.Author.Needs.{needs}
 use borrow.Author.Tests.{not-true, not-false}
-use Rattle.sheet_writer.proofs.Limits.{limits}
+use Rattle.sheet_limits.proofs.Limits.{limits}
 use Rattle.sheet_writer.proofs.Judging.{out-of-limits, in-limits}
 use Rattle.sheet_writer.proofs.judge.Statement.{statement}
 use Rattle.sheet_writer.proofs.judge.Tie as tie

@@ -2,7 +2,7 @@
 use lib.ListN.{length-take}
 use native.Mathlib.Omega.{arith}
 use borrow.Author.Needs.{needs}
-use Rattle.sheet_writer.proofs.Writing.{room-enough, short-sheet, full-sheet}
+use Rattle.sheet_writer.proofs.Passes.{room-enough, short-sheet, full-sheet}
 use Rattle.sheet_writer.proofs.write_judged.Statement.{statement}
 use Rattle.sheet_writer.proofs.write_judged.Tie as tie
 

@@ -1,0 +1,3 @@
+pub mod GivenRuns
+pub mod Joining
+pub mod Counting
