@@ -8,10 +8,9 @@ use entry::Frame;
 use entry::Leaf;
 use entry::PageSize;
 use entry::PagefilePage;
-use entry::PagingMode;
 ghost use mathlib.Core.Path.{_≡_};
 ghost use Prim.Native.Nat.{_<_, _^_};
-ghost use Rattle.entry.specs.Entry.{validOf, transition, softwareOf, extended, leafOf, narrowLeafOf, leafIn, prototypeOf};
+ghost use Rattle.entry.specs.Entry.{validOf, transition, softwareOf, extended, leafOf, narrowLeafOf, prototypeOf};
 
 // A software entry with bit 22 set names a page of the compressed store (02, order 5).
 const BIT_22: u64 = 0x400000;
@@ -44,28 +43,20 @@ pub fn last_entry(e: u64) -> Leaf
 }
 
 // A last-level entry of the 32-bit profiles.
-fn narrow_entry(e: u64) -> Leaf
+pub fn narrow_entry(e: u64) -> Leaf
     ensures { λ r. ⌜ r ≡ narrowLeafOf e ⌝ }
 {
     if e % 2 == 1 {
-        return Leaf::Settled(valid_entry(e));
+        if e / BIT_48 % 16 != 0 {
+            return Leaf::Settled(EntryPlace::Refused(Refusal::FrameTooWide));
+        }
+        return Leaf::Settled(EntryPlace::InFrame(Frame::of_entry(e), PageSize::Page4K));
     }
     let moving = in_transition(e);
     if moving {
         return Leaf::Settled(EntryPlace::InFrame(Frame::of_entry(e), PageSize::Page4K));
     }
     Leaf::Settled(EntryPlace::Refused(Refusal::StateNotFollowed))
-}
-
-// A last-level entry of a paging mode.
-pub fn last_entry_in(mode: PagingMode, e: u64) -> Leaf
-    ensures { λ r. ⌜ r ≡ leafIn mode e ⌝ }
-{
-    match mode {
-        PagingMode::FourLevel => last_entry(e),
-        PagingMode::Plain => narrow_entry(e),
-        PagingMode::Pae(_) => narrow_entry(e),
-    }
 }
 
 // An entry found at a prototype address.

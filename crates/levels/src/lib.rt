@@ -2,24 +2,13 @@
 use base::Refusal;
 use entry::Level;
 use entry::PageSize;
-use entry::PagingMode;
 use entry::ReservedBits;
 ghost use mathlib.Core.Path.{_≡_};
 ghost use Rattle.entry.specs.declared.PagingMode.the-variants.{FourLevel, Plain, Pae};
-ghost use Rattle.entry.specs.Entry.{row, levelsBelow, levelOf};
+ghost use Rattle.entry.specs.Entry.{row, levelOf};
 
-// The level of a table with `below` levels below it.
-pub fn level_at(mode: PagingMode, below: u64) -> Level
-    ensures { λ r. ⌜ r ≡ levelOf mode below ⌝ }
-{
-    match mode {
-        PagingMode::FourLevel => four_level_at(below),
-        PagingMode::Plain => plain_level_at(below),
-        PagingMode::Pae(_) => pae_level_at(below),
-    }
-}
-
-fn plain_level_at(below: u64) -> Level
+// The level of a plain table with `below` levels below it.
+pub fn plain_level_at(below: u64) -> Level
     ensures { λ r. ⌜ r ≡ levelOf Plain below ⌝ }
 {
     if below == 0 {
@@ -29,7 +18,8 @@ fn plain_level_at(below: u64) -> Level
     level_row(22, 1024, 4, PageSize::Page4M, reserved, false)
 }
 
-fn pae_level_at(below: u64) -> Level
+// The same of PAE, at any place.
+pub fn pae_level_at(below: u64) -> Level
     ensures { λ r. ⌜ r ≡ levelOf (Pae 0) below ⌝ }
 {
     if below == 0 {
@@ -76,16 +66,5 @@ fn level_row(
         large,
         reserved,
         region,
-    }
-}
-
-// How many levels lie below the top table.
-pub fn levels_below(mode: PagingMode) -> u64
-    ensures { λ r. ⌜ r ≡ levelsBelow mode ⌝ }
-{
-    match mode {
-        PagingMode::FourLevel => 3,
-        PagingMode::Plain => 1,
-        PagingMode::Pae(_) => 2,
     }
 }

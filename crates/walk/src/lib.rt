@@ -1,5 +1,6 @@
 // From an address of a case to a place in the image or the pagefile.
 use base::Refusal;
+use entry::BIT_32;
 use entry::EntryPlace;
 use entry::Frame;
 use entry::Leaf;
@@ -13,12 +14,11 @@ ghost use mathlib.Core.Path.{_≡_};
 ghost use Prim.Native.Nat.{_+_, _*_, _/_, _%_, _^_, _≤_, _<_};
 ghost use lib.ListN.{length};
 ghost use mathlib.Core.List.{[]};
-ghost use Rattle.entry.specs.Entry.{levelsBelow, levelOf, topOffset};
-ghost use Rattle.entry.specs.declared.PagingMode.the-variants.{FourLevel};
-ghost use Rattle.words.specs.Words.{littleAt};
+ghost use Rattle.entry.specs.Entry.{levelOf};
+ghost use Rattle.entry.specs.declared.PagingMode.the-variants.{FourLevel, Plain, Pae};
 ghost use Rattle.walk.specs.Walk.{frameIn, inPage, pagefilePlace, settleOf, descendOf, descended, wordOf, resolveOf};
 ghost use Rattle.frames.specs.Rows.{rowsPage};
-ghost use Rattle.walk.specs.Rows.{placedMode, fourLevels, Narrow, rowsWorld, TableInside, FitsAt, InTable, TopFits, entryRead, descentOf, noTable, endedAfter, WordInside, refusedPlace, prototypeStep, resolvedOf, stepOf};
+ghost use Rattle.walk.specs.Rows.{fourLevels, narrowSpace, rowsWorld, TableInside, FitsAt, InTable, entryRead, descentOf, noTable, endedAfter, settledAfter, WordInside, refusedPlace, prototypeStep, resolvedOf};
 
 // 02, order 7: the places of a PAE directory in its page.
 const PLACES: u64 = 128;
@@ -51,12 +51,6 @@ pub enum Place {
 pub enum EntryRead {
     Entry(u64),
     NoTable,
-}
-
-// What follows an upper entry: the next table's place, or the end of the descent.
-pub enum Step {
-    Down(ImagePage),
-    Ended(Leaf),
 }
 
 // Where the tables lead, and how many entries were read.
@@ -154,110 +148,126 @@ fn descend_four(rows: &[u64], image: &[u8], top: ImagePage, address: u64) -> Des
     }
 }
 
-// Where the entry for an address lies in a table of a paging mode with `below` levels below it.
-fn place_in_table(mode: PagingMode, below: u64, address: u64) -> u64
-    ensures { λ r. ⌜ InTable (levelOf mode below) address r ⌝ }
+// Where the entry for an address lies in a plain table with `below` levels below it.
+fn plain_place(below: u64, address: u64) -> u64
+    ensures { λ r. ⌜ InTable (levelOf Plain below) address r ⌝ }
 {
-    match mode {
-        PagingMode::FourLevel => 8 * index(below, address),
-        PagingMode::Plain => {
-            if below == 0 {
-                return 4 * (address / BIT_12 % 1024);
-            }
-            4 * (address / BIT_22 % 1024)
-        }
-        PagingMode::Pae(_) => {
-            if below == 0 {
-                return 8 * (address / BIT_12 % 512);
-            }
-            if below == 1 {
-                return 8 * (address / BIT_21 % 512);
-            }
-            8 * (address / BIT_30 % 4)
-        }
+    if below == 0 {
+        return 4 * (address / BIT_12 % 1024);
     }
+    4 * (address / BIT_22 % 1024)
 }
 
-// An entry of a paging mode: 4 bytes in the plain mode, else 8.
-fn entry_at(image: &[u8], mode: PagingMode, below: u64, at: u64) -> u64
-    requires { ⌜ at + levelOf mode below .bytes ≤ length (now image) ⌝ }
-    ensures { λ r. ⌜ r ≡ littleAt (levelOf mode below .bytes) (now (image .entry)) at ⌝ }
-{
-    match mode {
-        PagingMode::FourLevel => words::word_at(image, at),
-        PagingMode::Plain => words::dword_at(image, at),
-        PagingMode::Pae(_) => words::word_at(image, at),
-    }
-}
-
-// The entry for an address in a table that begins at `offset` in its page.
-fn table_entry_in(
-    image: &[u8],
-    mode: PagingMode,
-    below: u64,
-    offset: u64,
-    table: ImagePage,
-    address: u64,
-) -> EntryRead
-    requires { ⌜ TableInside (now image) table × FitsAt offset (levelOf mode below) ⌝ }
-    ensures { λ r. ⌜ r ≡ entryRead (now (image .entry)) (levelOf mode below) offset address table ⌝ }
+// The entry for an address in a plain table, of 4 bytes.
+fn plain_entry(image: &[u8], table: ImagePage, below: u64, address: u64) -> EntryRead
+    requires { ⌜ TableInside (now image) table ⌝ }
+    ensures { λ r. ⌜ r ≡ entryRead (now (image .entry)) (levelOf Plain below) 0 address table ⌝ }
 {
     match table {
         ImagePage::Absent => EntryRead::NoTable,
         ImagePage::Page(p) => {
-            let at = p * 4096 + offset + place_in_table(mode, below, address);
-            EntryRead::Entry(entry_at(image, mode, below, at))
+            let at = p * 4096 + plain_place(below, address);
+            EntryRead::Entry(words::dword_at(image, at))
         }
     }
 }
 
-// A PAE directory's place, as one of the 128 in a page.
-fn placed_mode(mode: PagingMode) -> PagingMode
-    ensures { λ r. ⌜ r ≡ placedMode mode ⌝ }
-{
-    match mode {
-        PagingMode::FourLevel => PagingMode::FourLevel,
-        PagingMode::Plain => PagingMode::Plain,
-        PagingMode::Pae(place) => PagingMode::Pae(place % PLACES),
-    }
-}
-
-// Where the top table begins in its page.
-fn top_offset(mode: PagingMode) -> u64
-    requires { ⌜ TopFits mode ⌝ }
-    ensures { λ r. ⌜ r ≡ topOffset mode ⌝ }
-{
-    match mode {
-        PagingMode::FourLevel => 0,
-        PagingMode::Plain => 0,
-        PagingMode::Pae(place) => 32 * place,
-    }
-}
-
-// Down the levels of a paging mode from the place of the top table.
-fn descend(rows: &[u64], image: &[u8], mode: PagingMode, top: ImagePage, address: u64) -> Descent
-    requires { ⌜ TableInside (now image) top × TopFits mode ⌝ }
-    ensures { λ r. ⌜ r ≡ descentOf (descendOf mode (levelsBelow mode) (rowsPage (now (rows .entry)) (length (now (image .entry)))) (now (image .entry)) (topOffset mode) top address) ⌝ }
+// Down the two levels of the plain mode from the place of the top table.
+fn descend_plain(rows: &[u64], image: &[u8], top: ImagePage, address: u64) -> Descent
+    requires { ⌜ TableInside (now image) top ⌝ }
+    ensures { λ r. ⌜ r ≡ descentOf (descendOf Plain 1 (rowsPage (now (rows .entry)) (length (now (image .entry)))) (now (image .entry)) 0 top address) ⌝ }
 {
     let size = image.len() as u64;
     let mut table = top;
-    let mut offset = top_offset(mode);
-    let mut below = levels::levels_below(mode);
-    let mut entries = 0;
+    let mut below = 1;
+    let mut read = 0;
     while 0 < below {
-        match table_entry_in(image, mode, below, offset, table, address) {
+        match plain_entry(image, table, below, address) {
             EntryRead::NoTable => {
-                return no_table(entries);
+                return no_table(read);
             }
             EntryRead::Entry(e) => {
-                entries = entries + 1;
-                let level = levels::level_at(mode, below);
-                match next_table(rows, size, upper_entries::upper_entry(level, e)) {
-                    Step::Ended(leaf) => {
-                        return ended(leaf, entries);
+                read += 1;
+                match upper_entries::upper_entry(levels::plain_level_at(below), e) {
+                    Upper::UpperNeedsRegion => {
+                        return ended(Leaf::NeedsRegion, read);
                     }
-                    Step::Down(found) => {
-                        table = found;
+                    Upper::LargePage(f, page) => {
+                        return ended(Leaf::Settled(EntryPlace::InFrame(f, page)), read);
+                    }
+                    Upper::Refused(refusal) => {
+                        return ended(Leaf::Settled(EntryPlace::Refused(refusal)), read);
+                    }
+                    Upper::Table(f) => {
+                        table = frames::locate(rows, size, f);
+                        below -= 1;
+                    }
+                }
+            }
+        }
+    }
+    match plain_entry(image, table, 0, address) {
+        EntryRead::NoTable => no_table(read),
+        EntryRead::Entry(e) => ended(last_entries::narrow_entry(e), read + 1),
+    }
+}
+
+// Where the entry for an address lies in a PAE table with `below` levels below it.
+fn pae_place(below: u64, address: u64) -> u64
+    ensures { λ r. ⌜ InTable (levelOf (Pae 0) below) address r ⌝ }
+{
+    if below == 0 {
+        return 8 * (address / BIT_12 % 512);
+    }
+    if below == 1 {
+        return 8 * (address / BIT_21 % 512);
+    }
+    8 * (address / BIT_30 % 4)
+}
+
+// The entry for an address in a PAE table that begins at `offset` in its page.
+fn pae_entry(image: &[u8], offset: u64, table: ImagePage, below: u64, address: u64) -> EntryRead
+    requires { ⌜ TableInside (now image) table × FitsAt offset (levelOf (Pae 0) below) ⌝ }
+    ensures { λ r. ⌜ r ≡ entryRead (now (image .entry)) (levelOf (Pae 0) below) offset address table ⌝ }
+{
+    match table {
+        ImagePage::Absent => EntryRead::NoTable,
+        ImagePage::Page(p) => {
+            let place = p * 4096 + offset + pae_place(below, address);
+            EntryRead::Entry(words::word_at(image, place))
+        }
+    }
+}
+
+// Down the three levels of PAE from the place of the top table's page; the table begins at `place` in it.
+fn descend_pae(rows: &[u64], image: &[u8], place: u64, top: ImagePage, address: u64) -> Descent
+    requires { ⌜ TableInside (now image) top × (place < 128) ⌝ }
+    ensures { λ r. ⌜ r ≡ descentOf (descendOf (Pae place) 2 (rowsPage (now (rows .entry)) (length (now (image .entry)))) (now (image .entry)) (32 * place) top address) ⌝ }
+{
+    let size = image.len() as u64;
+    let mut table = top;
+    let mut offset = 32 * place;
+    let mut below = 2;
+    let mut consulted = 0;
+    while 0 < below {
+        match pae_entry(image, offset, table, below, address) {
+            EntryRead::NoTable => {
+                return no_table(consulted);
+            }
+            EntryRead::Entry(e) => {
+                consulted += 1;
+                match upper_entries::upper_entry(levels::pae_level_at(below), e) {
+                    Upper::UpperNeedsRegion => {
+                        return ended(Leaf::NeedsRegion, consulted);
+                    }
+                    Upper::LargePage(f, page) => {
+                        return ended(Leaf::Settled(EntryPlace::InFrame(f, page)), consulted);
+                    }
+                    Upper::Refused(refusal) => {
+                        return ended(Leaf::Settled(EntryPlace::Refused(refusal)), consulted);
+                    }
+                    Upper::Table(f) => {
+                        table = frames::locate(rows, size, f);
                         offset = 0;
                         below -= 1;
                     }
@@ -265,21 +275,9 @@ fn descend(rows: &[u64], image: &[u8], mode: PagingMode, top: ImagePage, address
             }
         }
     }
-    match table_entry_in(image, mode, 0, offset, table, address) {
-        EntryRead::NoTable => no_table(entries),
-        EntryRead::Entry(e) => ended(last_entries::last_entry_in(mode, e), entries + 1),
-    }
-}
-
-// What follows an upper entry, in an image of `size` bytes.
-fn next_table(rows: &[u64], size: u64, upper: Upper) -> Step
-    ensures { λ r. ⌜ r ≡ stepOf (rowsPage (now (rows .entry)) size) upper ⌝ }
-{
-    match upper {
-        Upper::Table(f) => Step::Down(frames::locate(rows, size, f)),
-        Upper::LargePage(f, page) => Step::Ended(Leaf::Settled(EntryPlace::InFrame(f, page))),
-        Upper::Refused(refusal) => Step::Ended(Leaf::Settled(EntryPlace::Refused(refusal))),
-        Upper::UpperNeedsRegion => Step::Ended(Leaf::NeedsRegion),
+    match pae_entry(image, offset, table, 0, address) {
+        EntryRead::NoTable => no_table(consulted),
+        EntryRead::Entry(e) => ended(last_entries::narrow_entry(e), consulted + 1),
     }
 }
 
@@ -289,6 +287,24 @@ fn descend_from(rows: &[u64], image: &[u8], directory: Frame, address: u64) -> D
 {
     let top = frames::locate(rows, image.len() as u64, directory);
     descend_four(rows, image, top, address)
+}
+
+// The same of a 32-bit profile, PAE with its place or plain.
+fn descend_narrow(
+    rows: &[u64],
+    image: &[u8],
+    directory: Frame,
+    pae: bool,
+    place: u64,
+    address: u64,
+) -> Descent
+    ensures { λ r. ⌜ r ≡ descentOf (descended (rowsWorld (now (rows .entry)) (narrowSpace directory pae place) (now (image .entry)) []) address) ⌝ }
+{
+    let top = frames::locate(rows, image.len() as u64, directory);
+    if pae {
+        return descend_pae(rows, image, place % PLACES, top, address);
+    }
+    descend_plain(rows, image, top, address)
 }
 
 // A table's frame is in no run.
@@ -447,28 +463,10 @@ fn prototype(
     }
 }
 
-// An address of a 32-bit profile: what its entry settles, and no prototype entry.
-fn resolve_narrow(
-    rows: &[u64],
-    image: &[u8],
-    pagefile: &[u8],
-    space: AddressSpace,
-    address: u64,
-) -> Resolved
-    requires { ⌜ Narrow (space .mode) ⌝ }
-    ensures { λ r. ⌜ r ≡ resolvedOf (resolveOf 3 (rowsWorld (now (rows .entry)) space (now (image .entry)) (now (pagefile .entry))) address) ⌝ }
+// What a descent of a 32-bit profile settles.
+fn settled(rows: &[u64], image: &[u8], pagefile: &[u8], address: u64, d: Descent) -> Resolved
+    ensures { λ r. ⌜ r ≡ settledAfter (rowsPage (now (rows .entry)) (length (now (image .entry)))) (length (now (pagefile .entry))) address d ⌝ }
 {
-    let given = space.mode;
-    let mode = placed_mode(given);
-    if !entry::is_reachable(mode, address) {
-        return Resolved {
-            place: Place::Refused(Refusal::NotCanonical),
-            entries: 0,
-        };
-    }
-    let directory = space.directory;
-    let top = frames::locate(rows, image.len() as u64, directory);
-    let d = descend(rows, image, mode, top, address);
     let entries = d.entries;
     let leaf = d.leaf;
     match leaf {
@@ -488,6 +486,28 @@ fn resolve_narrow(
     }
 }
 
+// An address of a 32-bit profile, PAE with its place or plain; the two share what follows the descent, as one function.
+fn resolve_narrow(
+    rows: &[u64],
+    image: &[u8],
+    pagefile: &[u8],
+    directory: Frame,
+    pae: bool,
+    place: u64,
+    address: u64,
+) -> Resolved
+    ensures { λ r. ⌜ r ≡ resolvedOf (resolveOf 3 (rowsWorld (now (rows .entry)) (narrowSpace directory pae place) (now (image .entry)) (now (pagefile .entry))) address) ⌝ }
+{
+    if BIT_32 <= address {
+        return Resolved {
+            place: Place::Refused(Refusal::NotCanonical),
+            entries: 0,
+        };
+    }
+    let d = descend_narrow(rows, image, directory, pae, place, address);
+    settled(rows, image, pagefile, address, d)
+}
+
 // An address of a case whose sheet was read: where it leads, and how many entries were read.
 pub fn resolve_in(
     rows: &[u64],
@@ -498,13 +518,19 @@ pub fn resolve_in(
 ) -> Resolved
     ensures { λ r. ⌜ r ≡ resolvedOf (resolveOf 3 (rowsWorld (now (rows .entry)) space (now (image .entry)) (now (pagefile .entry))) address) ⌝ }
 {
+    let directory = space.directory;
     let mode = space.mode;
     match mode {
-        PagingMode::FourLevel => {
-            let directory = space.directory;
-            resolve(rows, image, pagefile, directory, address, 3)
-        }
-        PagingMode::Plain => resolve_narrow(rows, image, pagefile, space, address),
-        PagingMode::Pae(_) => resolve_narrow(rows, image, pagefile, space, address),
+        PagingMode::FourLevel => resolve(rows, image, pagefile, directory, address, 3),
+        PagingMode::Plain => resolve_narrow(rows, image, pagefile, directory, false, 0, address),
+        PagingMode::Pae(place) => resolve_narrow(
+            rows,
+            image,
+            pagefile,
+            directory,
+            true,
+            place,
+            address,
+        ),
     }
 }

@@ -32,7 +32,7 @@ use Rattle.frames.specs.declared.ImagePage.{ImagePage}
 use Rattle.frames.specs.declared.ImagePage.the-variants.{Page, Absent}
 use Rattle.words.specs.Words.{littleAt}
 use Rattle.walk.specs.Walk.{World, Trail, Next, noMore, deeper, inPage, frameIn, settleOf, settled, entryOffset, entryOf, upperStep, descendOf, descended, halt, leafStep, bodyOf, resolveOf, noting, stop}
-use Rattle.walk.specs.Rows.{Narrow}
+use Rattle.walk.proofs.Descending.{Narrow}
 use Rattle.walk.specs.declared.Place.{Place}
 use Rattle.walk.specs.declared.Place.the-variants.{Image, Pagefile, Zeros, Refused}
 use Rattle.walk.proofs.Count.{walk-count}

@@ -14,22 +14,22 @@ enum-told-2 : tie.Need-enum-told-2
 enum-told-2 c = search needs
 
 resolve-narrow-requires : tie.Need-resolve-narrow-requires
-resolve-narrow-requires c κs = rw (c .enum-told2 .given .1) tt
+resolve-narrow-requires c κs = search needs
 
-enum-told-3 : tie.Need-enum-told-3
-enum-told-3 c = search needs
+enum-known-mode : tie.Need-enum-known-mode
+enum-known-mode c = search needs
 
 resolve-narrow-requires-2 : tie.Need-resolve-narrow-requires-2
-resolve-narrow-requires-2 c κs = rw (c .enum-told3 .given .1) tt
+resolve-narrow-requires-2 c κs = search needs
 
 returns : tie.Need-returns
-returns c = rw (c .before .before .enum-told .given .1) (c .resolve .ensures)
+returns c = rw (c .before .enum-told .given .1) (c .resolve .ensures)
 
 returns-2 : tie.Need-returns-2
-returns-2 c = search needs
+returns-2 c = rw (c .before .enum-told2 .given .1) (c .resolve-narrow .ensures)
 
 returns-3 : tie.Need-returns-3
-returns-3 c = search needs
+returns-3 c = rw (c .before .before .mode .given .1) (c .resolve-narrow2 .ensures)
 
 pub resolve-in-spec : {M : Type 1} → statement M
 resolve-in-spec =
@@ -39,7 +39,7 @@ resolve-in-spec =
     resolve-requires
     enum-told-2
     resolve-narrow-requires
-    enum-told-3
+    enum-known-mode
     resolve-narrow-requires-2
     returns
     returns-2
