@@ -1,14 +1,14 @@
 -- What reading parts of a sheet finds, as the code hands it back.
 use mathlib.Core.Path.{_≡_}
 use mathlib.Core.List.{List}
-use Prim.Native.Nat.{ℕ, _+_, _-_, _*_, _%_, _≤_}
-use mathlib.Core.Bool.{Bool, true, not}
-use lib.Dec.{eqb, leb}
+use Prim.Native.Nat.{ℕ, _+_, _-_, _*_, _%_, _^_, _≤_}
+use mathlib.Core.Bool.{Bool, true, not, _&&_}
+use lib.Dec.{eqb, ltb, leb}
 use lib.ListN.{set}
 use lib.Seq.{sets}
 use Rattle.base.specs.Notation.{if_then_else_, within}
 use Rattle.base.specs.Refusal.{unplaced}
-use Rattle.base.specs.declared.Refusal.the-variants.{OutOfLimits, ImageLengthDiffers, PagefileNotWholePages}
+use Rattle.base.specs.declared.Refusal.the-variants.{OutOfLimits, BadRun, ImageLengthDiffers, PagefileNotWholePages}
 use Rattle.varint.specs.Reader.{Read, got, refused}
 use Rattle.entry.specs.Pages.{frame}
 use Rattle.entry.specs.declared.PagingMode.{PagingMode}
@@ -59,6 +59,17 @@ fieldsRead directory mode count next =
 abbrev pub runRead : Read Run → RunRead
 runRead (got r next) = run-read.Taken r next
 runRead (refused f) = run-read.Refused f
+
+-- the three tests of a run, by its two numbers
+abbrev pub soundRun : ℕ → ℕ → ℕ → ℕ → Bool
+soundRun gap pages least end = (leb least gap && ltb 0 pages) && leb (end + gap + pages) (2 ^ 36)
+
+-- the run of two numbers that were read, with the place after them
+abbrev pub runOf : ℕ → ℕ → ℕ → ℕ → ℕ → RunRead
+runOf gap pages least end next =
+    if soundRun gap pages least end
+    then run-read.Taken (record { first = frame (end + gap); pages = pages }) next
+    else run-read.Refused (unplaced BadRun)
 
 -- the numbers with a run's row at place i; `pages` is how many pages stand before it in the image
 abbrev pub withRow : List ℕ → ℕ → ℕ → Run → List ℕ

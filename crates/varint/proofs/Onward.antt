@@ -19,7 +19,7 @@ use Rattle.varint.proofs.Reader.{came, held, returned}
 abbrev Deeper : ℕ → ℕ → List ℕ → Type 0
 Deeper g at xs = (m j : ℕ) → dec g 1 at xs ≡ got m j → at < j
 
-dec-onward : (g least at : ℕ) (xs : List ℕ) (n next : ℕ) → dec g least at xs ≡ got n next → at < next
+pub dec-onward : (g least at : ℕ) (xs : List ℕ) (n next : ℕ) → dec g least at xs ≡ got n next → at < next
 dec-onward zero least at xs n next e = absurd (let z : _≡_ {A = ℕ} 0 1 = cc in omega arith)
 dec-onward (suc g) least at [] n next e = absurd (let z : _≡_ {A = ℕ} 0 1 = cc in omega arith)
 dec-onward (suc g) least at (x ∷ xs) n next e = go (ltb x 128) (ltb x least) (λ m j f. dec-onward g 1 (suc at) xs m j f) e
