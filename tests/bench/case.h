@@ -23,7 +23,7 @@ struct bench_case {
     uint8_t sheet[11 + 12 * MOST_RUNS]; /* no accepted sheet is longer */
     size_t sheet_length;
     uint64_t mode, place;
-    uint64_t rows[3 * MOST_RUNS]; /* the runs as crates/sheet hands them to the walk */
+    uint64_t rows[3 * MOST_RUNS]; /* the runs as crates/sheet_reader hands them to the walk */
     size_t run_count;
     uint64_t list_head;
 };

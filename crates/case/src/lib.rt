@@ -29,7 +29,7 @@ pub enum Opened {
 pub fn open_case(sheet: &[u8], image: &[u8], pagefile: &[u8], rows: &mut [u64]) -> Opened
     ensures { λ r. ⌜ Opens (caseOf (now (sheet .entry)) (now (image .entry)) (now (pagefile .entry))) (checkOf (caseOf (now (sheet .entry)) (now (image .entry)) (now (pagefile .entry)))) (now (rows .entry)) r (now (rows .exit)) ⌝ }
 {
-    match sheet::read_sheet(sheet, image.len() as u64, pagefile.len() as u64, rows) {
+    match sheet_reader::read_sheet(sheet, image.len() as u64, pagefile.len() as u64, rows) {
         SheetRead::Refused(fault) => Opened::Refused(fault),
         SheetRead::Accepted(header) => {
             let space = header.space;

@@ -23,7 +23,7 @@ pub fn case_runs(sheet: &[u8], image: u64, pagefile: u64, out: &mut [u64]) -> Ca
     ensures { λ r. ⌜ record { answer = r; buffer = now (out .exit) } ≡ caseRunsOf (now (sheet .entry)) image pagefile (now (out .entry)) ⌝ }
 {
     let none = 0;
-    match sheet::read_sheet(sheet, image, pagefile, &mut out[..none]) {
+    match sheet_reader::read_sheet(sheet, image, pagefile, &mut out[..none]) {
         SheetRead::Refused(fault) => fault_case(fault),
         SheetRead::Accepted(header) => {
             let count = header.count;
@@ -31,7 +31,7 @@ pub fn case_runs(sheet: &[u8], image: u64, pagefile: u64, out: &mut [u64]) -> Ca
                 return refuse(Refusal::ListBufferShort);
             }
             let n = 3 * count;
-            sheet::read_sheet(sheet, image, pagefile, &mut out[..n]);
+            sheet_reader::read_sheet(sheet, image, pagefile, &mut out[..n]);
             rows_to_runs(&mut out[..n]);
             let space = header.space;
             let directory = space.directory;
@@ -55,7 +55,7 @@ pub fn image_length(sheet: &[u8]) -> Written
 {
     let mut rows = [0u64; 1];
     let no_rows = 0;
-    match sheet::read_fields(sheet, &mut rows[..no_rows]) {
+    match sheet_reader::read_fields(sheet, &mut rows[..no_rows]) {
         FieldsRead::Refused(fault) => base::fault_written(fault),
         FieldsRead::Fields(_, pages) => {
             let length = 4096 * pages;

@@ -41,7 +41,7 @@ fn check_one(image: u64, pagefile: u64, bytes: &mut [u8]) -> bool {
         return false;
     }
     let mut rows = [0u64; 3000];
-    match sheet::read_sheet(bytes, image, pagefile, &mut rows) {
+    match sheet_reader::read_sheet(bytes, image, pagefile, &mut rows) {
         SheetRead::Refused(fault) => {
             print_fault(fault);
         }

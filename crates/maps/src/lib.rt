@@ -42,7 +42,7 @@ pub fn map_range(
 ) -> Written
     ensures { λ r. ⌜ MapAnswer (caseOf (now (sheet .entry)) (now (image .entry)) (now (pagefile .entry))) start pages (now (out .entry)) r (now (out .exit)) ⌝ }
 {
-    if sheet::has_few_runs(sheet) {
+    if sheet_header::has_few_runs(sheet) {
         let mut few = [0u64; 96];
         return map_over(sheet, image, pagefile, &mut few, start, pages, out);
     }

@@ -41,7 +41,7 @@ pub fn process_list(
 ) -> Written
     ensures { λ r. ⌜ ListAnswer (caseOf (now (sheet .entry)) (now (image .entry)) (now (pagefile .entry))) head (now (out .entry)) r (now (out .exit)) ⌝ }
 {
-    if sheet::has_few_runs(sheet) {
+    if sheet_header::has_few_runs(sheet) {
         let mut few = [0u64; 96];
         return list_over(sheet, image, pagefile, &mut few, head, out);
     }

@@ -24,7 +24,7 @@ const BIT_48: u64 = 0x1000000000000;
 pub fn processor_block(sheet: &[u8], image: &[u8], pagefile: &[u8], from: u64) -> Answer
     ensures { λ r. ⌜ BlockAnswer (caseOf (now (sheet .entry)) (now (image .entry)) (now (pagefile .entry))) from r ⌝ }
 {
-    if sheet::has_few_runs(sheet) {
+    if sheet_header::has_few_runs(sheet) {
         let mut few = [0u64; 96];
         return search_over(sheet, image, pagefile, &mut few, from);
     }

@@ -43,7 +43,7 @@ pub fn read_bytes(
 ) -> BytesRead
     ensures { λ r. ⌜ ReadAnswer (caseOf (now (sheet .entry)) (now (image .entry)) (now (pagefile .entry))) address n (now (out .entry)) r (now (out .exit)) ⌝ }
 {
-    if sheet::has_few_runs(sheet) {
+    if sheet_header::has_few_runs(sheet) {
         let mut few = [0u64; 96];
         return read_over(sheet, image, pagefile, &mut few, address, n, out);
     }
