@@ -2,7 +2,7 @@
 use mathlib.Core.Path.{_≡_}
 use mathlib.Core.List.{List}
 use Prim.Native.Nat.{ℕ, _+_, _-_, _*_, _%_, _^_, _≤_}
-use mathlib.Core.Bool.{Bool, true, not, _&&_}
+use mathlib.Core.Bool.{Bool, true, not, _&&_, _||_}
 use lib.Dec.{eqb, ltb, leb}
 use lib.ListN.{set}
 use lib.Seq.{sets}
@@ -48,6 +48,10 @@ headerRead (refused f) = header-read.Refused f
 abbrev pub fewRuns : Read Header → Bool
 fewRuns (got h next) = leb (h .count) 32
 fewRuns (refused f) = true
+
+-- the same by a count alone; over 1,000 the fields are refused
+abbrev pub fewCount : ℕ → Bool
+fewCount n = leb n 32 || ltb 1000 n
 
 -- the fields before the runs, with a number for the count
 abbrev pub fieldsRead : ℕ → PagingMode → ℕ → ℕ → HeaderRead

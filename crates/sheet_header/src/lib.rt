@@ -14,7 +14,7 @@ ghost use mathlib.Core.Path.{_≡_};
 ghost use Rattle.varint.specs.Reader.{got};
 ghost use Rattle.varint.specs.Groups.{number};
 ghost use Rattle.sheet.specs.Sheet.{modeFields, header};
-ghost use Rattle.sheet.specs.Inner.{modeRead, headerRead, fewRuns, fieldsRead};
+ghost use Rattle.sheet.specs.Inner.{modeRead, headerRead, fewRuns, fewCount, fieldsRead};
 
 // 02 order 7: the edition with a paging mode.
 const SECOND_EDITION: u64 = 2;
@@ -39,24 +39,37 @@ pub fn has_few_runs(sheet: &[u8]) -> bool
                 Number::Refused(_) => true,
                 Number::Value(_, b) => match varint::read_field(sheet, b) {
                     Number::Refused(_) => true,
-                    Number::Value(count, _) => count <= FEW_RUNS || MOST_RUNS < count,
+                    Number::Value(count, _) => is_few(count),
                 },
             }
         }
     }
 }
 
-// The same of a sheet of another edition than 1, whose fields after it stand at `at`.
+// Few runs by a count; one over the limit is refused, and there are none.
+fn is_few(count: u64) -> bool
+    ensures { λ r. ⌜ r ≡ fewCount count ⌝ }
+{
+    count <= FEW_RUNS || MOST_RUNS < count
+}
+
+// The same of a sheet of another edition than 1, whose fields after it stand at `at`; it reads them itself too.
 fn second_has_few(sheet: &[u8], edition: u64, at: usize) -> bool
     requires { ⌜ (number (now sheet) 0 ≡ got edition at) × (edition ≡ 1 → ⊥) ⌝ }
     ensures { λ r. ⌜ r ≡ fewRuns (header (now (sheet .entry)) 0) ⌝ }
 {
-    match second_header(sheet, edition, at) {
-        HeaderRead::Refused(_) => true,
-        HeaderRead::Fields(header, _) => {
-            let count = header.count;
-            count as u64 <= FEW_RUNS
-        }
+    if SECOND_EDITION != edition {
+        return true;
+    }
+    match varint::read_field(sheet, at) {
+        Number::Refused(_) => true,
+        Number::Value(_, a) => match read_mode(sheet, a) {
+            ModeRead::Refused(_) => true,
+            ModeRead::Mode(_, b) => match varint::read_field(sheet, b) {
+                Number::Refused(_) => true,
+                Number::Value(runs, _) => is_few(runs),
+            },
+        },
     }
 }
 

@@ -1,8 +1,8 @@
 -- Each return cites the law for how far the reading came; the count is the third number of edition 1.
 use borrow.Author.Needs.{needs}
 use Rattle.varint.proofs.Fields.{value-got, refused-bad}
-use Rattle.sheet.proofs.HeaderFields.{first-known, first-mode, no-edition, no-directory, no-count, all-fields}
-use Rattle.sheet.proofs.Short.{none-by-count, few-at-most, few-above}
+use Rattle.sheet.proofs.HeaderFields.{first-known, first-mode, no-edition, no-directory, no-count}
+use Rattle.sheet.proofs.Short.{none-by-count, few-by-fields}
 use Rattle.sheet_header.proofs.has_few_runs.Statement.{statement}
 use Rattle.sheet_header.proofs.has_few_runs.Tie as tie
 
@@ -63,6 +63,9 @@ returns-4 c =
     let no = refused-bad _ _ _ (c .before .before .read-field3 .ensures) (c .enum-told3 .given .1) in
     none-by-count _ _ (no-count _ _ _ edition (first-known _ one) _ _ directory _ _ (first-mode _ _ _ one) _ no)
 
+is-few-requires : tie.Need-is-few-requires
+is-few-requires c κs = search needs
+
 returns-5 : tie.Need-returns-5
 returns-5 c =
     let at-count = c .before .before in
@@ -73,19 +76,7 @@ returns-5 c =
     let one = at-one .if1 .left in
     let directory = value-got _ _ _ _ (at-b .before .before .read-field2 .ensures) (at-b .b .given .1) in
     let count = value-got _ _ _ _ (at-count .before .before .read-field3 .ensures) (at-count .count .given .1) in
-    few-at-most _ _ _ _ _ (all-fields _ _ _ edition (first-known _ one) _ _ directory _ _ (first-mode _ _ _ one) _ _ count) (c .if2 .taken)
-
-returns-6 : tie.Need-returns-6
-returns-6 c =
-    let at-count = c .before .before in
-    let at-b = at-count .before .before .before .before in
-    let at-one = at-b .before .before .before in
-    let at-edition = at-one .before .before in
-    let edition = value-got _ _ _ _ (at-edition .before .before .read-field .ensures) (at-edition .edition .given .1) in
-    let one = at-one .if1 .left in
-    let directory = value-got _ _ _ _ (at-b .before .before .read-field2 .ensures) (at-b .b .given .1) in
-    let count = value-got _ _ _ _ (at-count .before .before .read-field3 .ensures) (at-count .count .given .1) in
-    few-above _ _ _ _ _ (all-fields _ _ _ edition (first-known _ one) _ _ directory _ _ (first-mode _ _ _ one) _ _ count) (c .if2 .left)
+    rw (c .is-few .ensures) (few-by-fields _ _ _ edition (first-known _ one) _ _ directory _ _ (first-mode _ _ _ one) _ _ count)
 
 pub has-few-runs-spec : {M : Type 1} → statement M
 has-few-runs-spec =
@@ -102,8 +93,8 @@ has-few-runs-spec =
     read-field-requires-3
     enum-told-3
     enum-known-count
+    is-few-requires
     returns-2
     returns-3
     returns-4
-    returns-5
-    returns-6)
+    returns-5)
