@@ -26,7 +26,7 @@ pub extern "C" fn bench_walk_pages(
     let mut a = start;
     let mut i = 0;
     while i < pages {
-        let found = walk::resolve_in(rows, image, pagefile, space, a);
+        let found = resolution::resolve_in(rows, image, pagefile, space, a);
         sum = std::num::wrapping_add_u64(sum, image_offset(found));
         a = std::num::wrapping_add_u64(a, 4096);
         i += 1;
@@ -48,7 +48,7 @@ pub extern "C" fn bench_walk_one(
     ensures { λ r. ⌜ r ≡ walkedOffset (benchWorld (now (rows .entry)) (now (image .entry)) (now (pagefile .entry)) directory mode place) address ⌝ }
 {
     let space = space_of(directory, mode, place);
-    image_offset(walk::resolve_in(rows, image, pagefile, space, address))
+    image_offset(resolution::resolve_in(rows, image, pagefile, space, address))
 }
 
 fn space_of(directory: u64, mode: u64, place: u64) -> AddressSpace

@@ -175,7 +175,7 @@ fn write_map(
     };
     let mut i = 0;
     while i < pages {
-        let found = walk::resolve_in(rows, image, pagefile, space, start + PAGE_BYTES * i);
+        let found = resolution::resolve_in(rows, image, pagefile, space, start + PAGE_BYTES * i);
         builder = builder.push(out, mapped_page(found));
         i += 1;
     }

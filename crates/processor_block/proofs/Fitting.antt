@@ -77,14 +77,18 @@ fit-inside image i f h e = whole (8 * i) (length image) (omega arith) e (fit-nea
 pub none-yet : {image : List ℕ} {i : ℕ} → NoneFit image i i
 none-yet = record { onward = omega arith; none = λ k l h. absurd (omega arith) }
 
-pub one-more : {image : List ℕ} {from i : ℕ} → NoneFit image from i → wordsFit image (8 * i) ≡ false → NoneFit image from (i + 1)
-one-more {image} {from} {i} q h = record { onward = omega arith; none = λ k l u. go k l u (test k i) }
+pub one-word : {image : List ℕ} {i : ℕ} → wordsFit image (8 * i) ≡ false → NoneFit image i (i + 1)
+one-word {image} {i} h = record { onward = omega arith; none = λ k l u. go k (omega arith) }
   where
-    go : (k : ℕ) → from ≤ k → k < i + 1 → Test k i → wordsFit image (8 * k) ≡ false
-    go k l u (below m) = q .none k l m
-    go k l u (above m) =
-        let z : k ≡ i = omega arith in
-        rw z h
+    go : (k : ℕ) → k ≡ i → wordsFit image (8 * k) ≡ false
+    go k z = rw z h
+
+pub joined : {image : List ℕ} {i j k n m : ℕ} → NoneFit image i j → j ≡ k → NoneFit image k n → n ≡ m → NoneFit image i m
+joined {image} {i} {j} {k} {n} {m} p e q f = record { onward = omega (arith, p .onward, q .onward); none = λ x l u. go x l u (test x j) }
+  where
+    go : (x : ℕ) → i ≤ x → x < m → Test x j → wordsFit image (8 * x) ≡ false
+    go x l u (below t) = p .none x l t
+    go x l u (above t) = q .none x (omega arith) (omega arith)
 
 -- ---- a block or none
 

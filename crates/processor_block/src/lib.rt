@@ -3,17 +3,15 @@ use base::Refusal;
 use case::Answer;
 use case::Opened;
 use entry::Frame;
-use entry::PagingMode;
-use sheet::AddressSpace;
 use walk::Place;
 ghost use mathlib.Core.Path.{_≡_};
-ghost use Prim.Native.Nat.{_+_, _/_, _%_, _≤_, _<_};
+ghost use Prim.Native.Nat.{_+_, _*_, _/_, _%_, _≤_, _<_};
 ghost use lib.ListN.{length};
 ghost use Rattle.case.specs.Case.{caseOf};
 ghost use Rattle.case.specs.Inner.{rowNumbers};
 ghost use Rattle.processor_block.specs.Block.{wordsFit, isAt};
 ghost use Rattle.processor_block.specs.Call.{BlockAnswer};
-ghost use Rattle.processor_block.specs.Inner.{Searches, NoneFit};
+ghost use Rattle.processor_block.specs.Inner.{Searches, NoneFit, Passes};
 
 // Self and CurrentPrcb exceed this (01, after document 003).
 const KERNEL_FLOOR: u64 = 0xFFFF000000000000;
@@ -55,9 +53,7 @@ fn search(rows: &[u64], image: &[u8], pagefile: &[u8], from: u64) -> Answer
         if words_fit(image, o) {
             let own = words::word_at(image, o + 0x18);
             let directory = Frame::of_entry(words::word_at(image, o + 0x1D0));
-            let mode = PagingMode::FourLevel;
-            let space = AddressSpace { directory, mode };
-            let found = walk::resolve_in(rows, image, pagefile, space, own);
+            let found = resolution::resolve_four_level(rows, image, pagefile, directory, own);
             let entries = found.entries;
             let place = found.place;
             if is_at(place, o) {
@@ -83,25 +79,50 @@ fn words_before(from: u64) -> u64
     from / 8 + 1
 }
 
-// Past words that begin no block: to the first whose Self is 0x180 less than the word after it, or to the last few.
+// Past words that begin no block, four at a time: to four of which one may, or to the last few.
 fn next_pair(image: &[u8], from: u64) -> u64
     ensures { λ r. ⌜ NoneFit (now (image .entry)) from r ⌝ }
 {
     let words = image.len() as u64 / 8;
-    if words < 4 {
+    if words < 7 {
         return from;
     }
-    let pairs = words - 4;
+    let fours = words - 7;
     let mut i = from;
-    while i < pairs {
-        let own = words::word_at(image, 8 * i + 0x18);
-        let prcb = words::word_at(image, 8 * i + 0x20);
-        if std::num::wrapping_add_u64(own, 0x180) == prcb {
+    while i < fours {
+        if has_pair(image, i) {
             return i;
         }
-        i += 1;
+        i += 4;
     }
     i
+}
+
+// May a block begin at one of the four words from the i-th on?
+fn has_pair(image: &[u8], i: u64) -> bool
+    requires { ⌜ 8 * i + 64 ≤ length (now image) ⌝ }
+    ensures { λ r. ⌜ Passes (now (image .entry)) i 4 r ⌝ }
+{
+    if is_pair(image, i) {
+        return true;
+    }
+    if is_pair(image, i + 1) {
+        return true;
+    }
+    if is_pair(image, i + 2) {
+        return true;
+    }
+    is_pair(image, i + 3)
+}
+
+// Is the Self of a block that begins at the i-th word 0x180 less than the word after it?
+fn is_pair(image: &[u8], i: u64) -> bool
+    requires { ⌜ 8 * i + 40 ≤ length (now image) ⌝ }
+    ensures { λ r. ⌜ Passes (now (image .entry)) i 1 r ⌝ }
+{
+    let own = words::word_at(image, 8 * i + 0x18);
+    let prcb = words::word_at(image, 8 * i + 0x20);
+    std::num::wrapping_add_u64(own, 0x180) == prcb
 }
 
 // Are the place in the page and the three words those of a block?

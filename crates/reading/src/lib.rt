@@ -185,7 +185,7 @@ fn fill_page(
     requires { ⌜ address % 4096 + m ≤ 4096 ⌝ }
     ensures { λ r. ⌜ FilledWith (pieceOf (now (image .entry)) (now (pagefile .entry)) m (resolveOf 3 (rowsWorld (now (rows .entry)) space (now (image .entry)) (now (pagefile .entry))) address .place)) at (now (out .entry)) r (now (out .exit)) ⌝ }
 {
-    let found = walk::resolve_in(rows, image, pagefile, space, address);
+    let found = resolution::resolve_in(rows, image, pagefile, space, address);
     let place = found.place;
     lay(image, pagefile, place, m, out, at)
 }

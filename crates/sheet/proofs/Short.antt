@@ -1,8 +1,8 @@
--- How many runs a sheet has: few if it has few bytes, for three numbers at least before the runs and two a run take a byte each at least; few if its count says so.
+-- How many runs a sheet has: few if its count says so.
 use mathlib.Core.Path.{_≡_, refl, sym, ap, _∙_}
-use mathlib.Core.List.{List, [], _∷_}
+use mathlib.Core.List.{List}
 use mathlib.Core.Bool.{Bool, true, false, and-false}
-use Prim.Native.Nat.{ℕ, zero, suc, _+_, _*_, _^_, _≤_, _<_}
+use Prim.Native.Nat.{ℕ, _≤_, _<_}
 use native.Mathlib.Omega.{arith}
 use lib.Dec.{leb, ltb}
 use lib.ListN.{length}
@@ -10,63 +10,19 @@ use borrow.Author.Tests.{leb-true, le-leb, lt-leb, lt-ltb, le-ltb}
 use Rattle.base.specs.Notation.{if_then_else_, within}
 use Rattle.base.specs.Refusal.{unplaced}
 use Rattle.base.specs.declared.Fault.{Fault}
-use Rattle.base.specs.declared.Refusal.the-variants.{OutOfLimits, BadRun}
+use Rattle.base.specs.declared.Refusal.the-variants.{OutOfLimits}
 use Rattle.base.proofs.Test.{Test, test, below, above}
 use Rattle.varint.specs.Reader.{Read, got, refused}
 use Rattle.varint.specs.Groups.{number}
-use Rattle.varint.proofs.Reader.{came, held, returned}
-use Rattle.varint.proofs.Onward.{field-onward}
 use Rattle.entry.specs.Pages.{frame}
 use Rattle.entry.specs.declared.PagingMode.{PagingMode}
-use Rattle.sheet.specs.Sheet.{modeBy, header, runFrom, runsFrom, endOf, Sheet, sheetOf}
+use Rattle.sheet.specs.Sheet.{modeBy, header, Sheet, sheetOf}
 use Rattle.sheet.specs.Inner.{headerRead, fewRuns, fewCount, fieldsRead}
 use Rattle.sheet.specs.declared.Header.{Header}
 use Rattle.sheet.specs.declared.HeaderRead.{HeaderRead}
 use Rattle.sheet.specs.declared.HeaderRead.the-variants.{Fields, Refused}
-use Rattle.sheet.specs.declared.Run.{Run}
-use Rattle.sheet.proofs.HeaderFields.{all-fields, ModeField, none, two, header-parts}
-use Rattle.sheet.proofs.AcceptedCase.{Runs, runs-chain, OwnParts, sheet-parts}
-
-header-onward : (s : List ℕ) (h : Header) (next : ℕ) → header s 0 ≡ got h next → 3 ≤ next
-header-onward s h next e =
-    let p = header-parts s h next e in
-    omega (
-      arith,
-      field-onward s 0 (p .edition) (p .directory-at) (p .edition-read),
-      field-onward s (p .directory-at) (h .space .directory .0) (p .mode-at) (p .directory-read),
-      mode-onward (p .mode-read),
-      field-onward s (p .count-at) (h .count) next (p .count-read),
-    )
-  where
-    mode-onward : {at n to : ℕ} {m : PagingMode} → ModeField s at n m to → at ≤ to
-    mode-onward none = omega arith
-    mode-onward {at} (two m to q) = omega (arith, field-onward s at _ (q .place-at) (q .mode-read), field-onward s (q .place-at) _ to (q .place-read))
-
-run-onward : (s : List ℕ) (at least end : ℕ) (r : Run) (next : ℕ) → runFrom least end s at ≡ got r next → at + 2 ≤ next
-unfolding runFrom
-run-onward s at least end r next e =
-    let c₁ = came s _ (number s at) r next e in
-    let c₂ = came s _ (number s (c₁ .at)) r next (c₁ .rest) in
-    let t₁ = held s _ (leb least (c₁ .value)) BadRun (c₂ .at) r next (c₂ .rest) in
-    let t₂ = held s _ (ltb 0 (c₂ .value)) BadRun (c₂ .at) r next (t₁ .1) in
-    let t₃ = held s _ (leb (end + c₁ .value + c₂ .value) (2 ^ 36)) BadRun (c₂ .at) r next (t₂ .1) in
-    let same = returned (record { first = frame (end + c₁ .value); pages = c₂ .value }) r (c₂ .at) next (t₃ .1) .1 in
-    omega (arith, field-onward s at (c₁ .value) (c₁ .at) (c₁ .field), field-onward s (c₁ .at) (c₂ .value) (c₂ .at) (c₂ .field))
-
-runs-onward : (n least end : ℕ) (s : List ℕ) (at : ℕ) (rs : List Run) (next : ℕ) → runsFrom n least end s at ≡ got rs next → at + 2 * n ≤ next
-unfolding runsFrom
-runs-onward zero least end s at rs next e = let same = returned [] rs at next e .1 in omega arith
-runs-onward (suc n) least end s at rs next e =
-    let c₁ = came s _ (runFrom least end s at) rs next e in
-    let c₂ = came s _ (runsFrom n 1 (endOf (c₁ .value)) s (c₁ .at)) rs next (c₁ .rest) in
-    let same = returned (c₁ .value ∷ c₂ .value) rs (c₂ .at) next (c₂ .rest) .1 in
-    omega (arith, run-onward s at least end (c₁ .value) (c₁ .at) (c₁ .field), runs-onward n 1 (endOf (c₁ .value)) s (c₁ .at) (c₂ .value) (c₂ .at) (c₂ .field))
-
-pub few-bytes : (s : List ℕ) (image pagefile : ℕ) (t : Sheet) (next : ℕ) → sheetOf s image pagefile ≡ got t next → 3 + 2 * length (t .runs) ≤ length s
-few-bytes s image pagefile t next e =
-    let p = sheet-parts s image pagefile t next e .own in
-    let many : length (t .runs) ≡ p .fields .count = runs-chain (p .fields .count) 0 0 s (p .at) (t .runs) (length s) (p .runs-read) .many in
-    omega (arith, many, header-onward s (p .fields) (p .at) (p .header-read), runs-onward (p .fields .count) 0 0 s (p .at) (t .runs) (length s) (p .runs-read))
+use Rattle.sheet.proofs.HeaderFields.{all-fields}
+use Rattle.sheet.proofs.AcceptedCase.{runs-chain, sheet-parts}
 
 few-header : (s : List ℕ) (h : Header) (next : ℕ) → header s 0 ≡ got h next → fewRuns (header s 0) ≡ true → h .count ≤ 32
 few-header s h next e f = leb-true (h .count) 32 (sym (ap fewRuns e) ∙ f)

@@ -1,3 +1,0 @@
-pub mod Narrow
-pub mod Profiles
-pub mod Reserved

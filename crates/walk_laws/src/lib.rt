@@ -1,1 +1,0 @@
-// Laws of the walk, proved of its definitions; no code.
