@@ -27,7 +27,7 @@ pub fn resolve_in(
     let directory = space.directory;
     let mode = space.mode;
     match mode {
-        PagingMode::FourLevel => resolve_four_level(rows, image, pagefile, directory, address),
+        PagingMode::FourLevel => resolve(rows, image, pagefile, directory, address, 3),
         PagingMode::Plain => resolve_narrow(rows, image, directory, false, 0, address),
         PagingMode::Pae(place) => resolve_narrow(rows, image, directory, true, place, address),
     }

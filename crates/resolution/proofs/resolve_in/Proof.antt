@@ -1,4 +1,5 @@
 -- By the mode.
+use native.Mathlib.Omega.{arith}
 use borrow.Author.Needs.{needs}
 use Rattle.resolution.proofs.resolve_in.Statement.{statement}
 use Rattle.resolution.proofs.resolve_in.Tie as tie
@@ -6,8 +7,8 @@ use Rattle.resolution.proofs.resolve_in.Tie as tie
 enum-told : tie.Need-enum-told
 enum-told c = search needs
 
-resolve-four-level-requires : tie.Need-resolve-four-level-requires
-resolve-four-level-requires c κs = search needs
+resolve-requires : tie.Need-resolve-requires
+resolve-requires c κs = omega arith
 
 enum-told-2 : tie.Need-enum-told-2
 enum-told-2 c = search needs
@@ -22,7 +23,7 @@ resolve-narrow-requires-2 : tie.Need-resolve-narrow-requires-2
 resolve-narrow-requires-2 c κs = search needs
 
 returns : tie.Need-returns
-returns c = rw (c .before .enum-told .given .1) (c .resolve-four-level .ensures)
+returns c = rw (c .before .enum-told .given .1) (c .resolve .ensures)
 
 returns-2 : tie.Need-returns-2
 returns-2 c = rw (c .before .enum-told2 .given .1) (c .resolve-narrow .ensures _)
@@ -35,7 +36,7 @@ resolve-in-spec =
     tie.close
     (tie.spec
     enum-told
-    resolve-four-level-requires
+    resolve-requires
     enum-told-2
     resolve-narrow-requires
     enum-known-mode
