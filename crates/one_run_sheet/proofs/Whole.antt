@@ -25,7 +25,7 @@ module _ (s : List ℕ) (image pagefile edition a directory b count at : ℕ) (o
   told r q = record { accepted = go r (q .rest) }
     where
       go : (x : OneRun) → restAs s at directory image pagefile x → toldAs (sheetOf s image pagefile) (length s) x
-      go (Run d first pages) e = rw (e .0) (whole first pages (e .1), e .1 .top)
+      go (Run d first pages) e = rw (e .0) (whole first pages (e .1))
       go Other e = tt
 
 pub rest-read : (s : List ℕ) (at image pagefile gap a pages end : ℕ) → number s at ≡ got gap a → number s a ≡ got pages end → end ≡ length s → (pages ≡ 0 → ⊥) → gap + pages ≤ 2 ^ 36 → image ≡ 4096 * pages

@@ -16,7 +16,7 @@ oneRunSheet directory first pages = record { space = spaceAt directory; runs = r
 
 -- a sheet that the check d reads up to `end`, as it is told
 abbrev pub toldAs : Read Sheet → ℕ → OneRun → Type 0
-toldAs d end (Run directory first pages) = (d ≡ got (oneRunSheet directory first pages) end) × (first + pages ≤ 2 ^ 36)
+toldAs d end (Run directory first pages) = d ≡ got (oneRunSheet directory first pages) end
 toldAs d end Other = Unit {0}
 
 -- which accepted sheets are told, and which are left to be read otherwise, is free

@@ -54,6 +54,7 @@ fn read_rest(s: &[u8], at: usize, directory: u64, image: u64, pagefile: u64) -> 
                 if pages == 0 {
                     return OneRun::Other;
                 }
+                // Numbers of three groups end below it; the test spares a law about bytes.
                 if TOP_PAGE < gap + pages {
                     return OneRun::Other;
                 }
