@@ -6,17 +6,20 @@ use lib.ListN.{length}
 use Rattle.varint.specs.Reader.{Read, got}
 use Rattle.varint.specs.Groups.{number}
 use Rattle.entry.specs.Pages.{frame}
-use Rattle.sheet.specs.Sheet.{Sheet, spaceAt}
+use Rattle.entry.specs.declared.Frame.{Frame}
+use Rattle.entry.specs.declared.PagingMode.the-variants.{FourLevel}
+use Rattle.sheet.specs.Sheet.{Sheet}
+use Rattle.sheet.specs.declared.Run.{Run}
 use Rattle.one_run_sheet.specs.declared.OneRun.{OneRun}
-use Rattle.one_run_sheet.specs.declared.OneRun.the-variants.{Run, Other}
+use Rattle.one_run_sheet.specs.declared.OneRun.the-variants.{Fields, Other}
 
 -- the sheet of four levels with one run
-abbrev pub oneRunSheet : ℕ → ℕ → ℕ → Sheet
-oneRunSheet directory first pages = record { space = spaceAt directory; runs = record { first = frame first; pages = pages } ∷ [] }
+abbrev pub oneRunSheet : Frame → Run → Sheet
+oneRunSheet directory run = record { space = record { directory = directory; mode = FourLevel }; runs = run ∷ [] }
 
 -- a sheet that the check d reads up to `end`, as it is told
 abbrev pub toldAs : Read Sheet → ℕ → OneRun → Type 0
-toldAs d end (Run directory first pages) = d ≡ got (oneRunSheet directory first pages) end
+toldAs d end (Fields directory run) = d ≡ got (oneRunSheet directory run) end
 toldAs d end Other = Unit {0}
 
 -- which accepted sheets are told, and which are left to be read otherwise, is free
@@ -34,7 +37,7 @@ pub record Rest (s : List ℕ) (at image pagefile first pages : ℕ) : Type 0 wh
   pub pagefile-pages : pagefile % 4096 ≡ 0
 
 abbrev pub restAs : List ℕ → ℕ → ℕ → ℕ → ℕ → OneRun → Type 0
-restAs s at directory image pagefile (Run d first pages) = (d ≡ directory) × Rest s at image pagefile first pages
+restAs s at directory image pagefile (Fields top run) = (top ≡ frame directory) × Rest s at image pagefile (run .first .0) (run .pages)
 restAs s at directory image pagefile Other = Unit {0}
 
 pub record RestTold (s : List ℕ) (at directory image pagefile : ℕ) (r : OneRun) : Type 0 where

@@ -1,4 +1,6 @@
 // Sheets of edition 1 with one run, each number in at most three groups, without a loop and without rows.
+use entry::Frame;
+use sheet::Run;
 use varint::ShortNumber;
 ghost use lib.ListN.{length};
 ghost use Rattle.sheet.specs.Sheet.{sheetOf};
@@ -7,9 +9,9 @@ ghost use Rattle.one_run_sheet.specs.OneRun.{Told, RestTold};
 // 01's limit of a page count.
 const TOP_PAGE: u64 = 0x1000000000;
 
-// The directory page, the first frame and the pages of an accepted sheet, or that it must be read otherwise.
+// The directory page and the run of an accepted sheet, or that it must be read otherwise.
 pub enum OneRun {
-    Run(u64, u64, u64),
+    Fields(Frame, Run),
     Other,
 }
 
@@ -64,7 +66,9 @@ fn read_rest(s: &[u8], at: usize, directory: u64, image: u64, pagefile: u64) -> 
                 if pagefile % 4096 != 0 {
                     return OneRun::Other;
                 }
-                OneRun::Run(directory, gap, pages)
+                let top = Frame::numbered(directory);
+                let first = Frame::numbered(gap);
+                OneRun::Fields(top, Run { first, pages })
             }
         },
     }

@@ -51,6 +51,12 @@ returns-4 c = told-other
 returns-5 : tie.Need-returns-5
 returns-5 c = told-other
 
+numbered-requires : tie.Need-numbered-requires
+numbered-requires c κs = search needs
+
+numbered-requires-2 : tie.Need-numbered-requires-2
+numbered-requires-2 c κs = search needs
+
 returns-6 : tie.Need-returns-6
 returns-6 c = told-other
 
@@ -59,11 +65,13 @@ returns-7 c = told-other
 
 returns-8 : tie.Need-returns-8
 returns-8 c =
-    let at-pages = c .before .before .before .before .before .before in
+    let at-if = c .before .before in
+    let at-pages = at-if .before .before .before .before .before .before in
     let at-gap = at-pages .before .before .before .before in
     let gap = short-got _ _ _ _ _ (at-gap .before .before .read-short .ensures) (at-gap .gap .given .1) in
     let pages = short-got _ _ _ _ _ (at-pages .before .before .read-short2 .ensures) (at-pages .pages .given .1) in
-    told-run _ _ _ _ _ _ _ (rest-read _ _ _ _ _ _ _ _ gap pages (c .before .before .before .before .if1 .left) (c .before .before .before .if2 .left) (omega arith) (c .before .if4 .left) (c .if5 .left))
+    told-run _ _ _ _ _ _ _ _ _ (c .before .numbered .ensures) (c .numbered2 .ensures)
+    (rest-read _ _ _ _ _ _ _ _ gap pages (at-if .before .before .before .before .if1 .left) (at-if .before .before .before .if2 .left) (omega arith) (at-if .before .if4 .left) (at-if .if5 .left))
 
 pub read-rest-spec : {M : Type 1} → statement M
 read-rest-spec =
@@ -82,6 +90,8 @@ read-rest-spec =
     mul-if4
     returns-4
     returns-5
+    numbered-requires
+    numbered-requires-2
     returns-6
     returns-7
     returns-8)
