@@ -1,4 +1,6 @@
 // The small program of 01: a line for each address on standard input, over a case in three files.
+#![tactic(auto)]
+
 ghost use Rattle.std.specs.Prelude.{◌≡◌, ◌+◌, ◌≤◌, length, take};
 ghost use Rattle.std.proofs.lemmas.List.Edits.{sets};
 ghost use Rattle.base.specs.Overlay.{Wrote};
@@ -69,7 +71,7 @@ fn copy(out: &mut [u8], at: usize, text: &[u8])
 // ---- the files
 
 // Whether all three could be read; where the image and the pagefile start in a buffer that starts with the sheet, and where they end.
-#[derive(Drop)]
+#[derive(Clone, Copy)]
 struct Files {
     ok: bool,
     image: usize,
@@ -78,7 +80,7 @@ struct Files {
 }
 
 // Whether a file could be read, and where its bytes end in a buffer.
-#[derive(Drop)]
+#[derive(Clone, Copy)]
 struct Loaded {
     ok: bool,
     end: usize,

@@ -1,4 +1,6 @@
 // The walk on a parsed case, exported for the benchmark alone.
+#![tactic(auto)]
+
 ghost use Rattle.std.specs.Prelude.{◌≡◌, ◌%◌, ◌^◌};
 ghost use Rattle.bench_walk.specs.Bench.{bench_space, bench_world, image_offset, walked_offset, walked_sum};
 

@@ -1,4 +1,6 @@
 // The exported calls: each hands on the call of the same meaning, with its whole contract.
+#![tactic(auto)]
+
 ghost use Rattle.std.specs.Prelude.{◌≡◌};
 ghost use Rattle.case_runs.specs.Call.{case_runs_of, image_length_of};
 ghost use Rattle.case.specs.Case.{case_of};

@@ -1,4 +1,6 @@
 // What every call on a case shares: opening the case, and the answer for an address.
+#![tactic(auto)]
+
 ghost use Rattle.std.specs.Prelude.{◌≡◌};
 ghost use Rattle.case.specs.Case.{case_of, check_of, served};
 ghost use Rattle.case.specs.Answer.{place_answer, refusal, fault_answer};
@@ -11,7 +13,7 @@ use walk::{Place, Resolved};
 
 // 01's number, the addressed byte's offset in its file, and the entries read.
 #[repr(C)]
-#[derive(Drop)]
+#[derive(Clone, Copy)]
 pub struct Answer {
     pub number: u64,
     pub offset: u64,
@@ -19,7 +21,7 @@ pub struct Answer {
 }
 
 // The address space of an accepted case and how many numbers its rows take, or what is at fault.
-#[derive(Drop)]
+#[derive(Clone, Copy)]
 pub enum Opened {
     Ready(AddressSpace, usize),
     Refused(Fault),

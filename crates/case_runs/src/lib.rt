@@ -1,4 +1,6 @@
 // What a case's sheet says, in numbers: the directory page, its paging mode and place, and where each run lies in physical memory and in the image.
+#![tactic(auto)]
+
 ghost use Rattle.std.specs.Prelude.{◌≡◌};
 ghost use Rattle.case_runs.specs.Call.{case_refusal, fault_case, case_runs_of, image_length_of};
 ghost use Rattle.case_runs.specs.Inner.{RowsInOrder, runs_of_rows};
@@ -8,7 +10,7 @@ use sheet::{FieldsRead, SheetRead};
 
 // 01's number, or 53 for a buffer too short; the directory page, the paging mode's two numbers, and how many runs there are.
 #[repr(C)]
-#[derive(Drop)]
+#[derive(Clone, Copy)]
 pub struct CaseRead {
     pub number: u64,
     pub directory: u64,

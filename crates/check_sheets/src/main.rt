@@ -1,6 +1,8 @@
 // Checks sheets from standard input, for the differential test. A record is the image's length, the pagefile's
 // length and the sheet's length, 8 bytes each and little-endian, then the sheet, of at most 12,011 bytes.
 // A refused sheet prints its number, and for 11 and 18 the position; an accepted one 0, the directory page, the paging mode's number and its place, the number of runs, and each run's first frame and pages.
+#![tactic(auto)]
+
 use base::Fault;
 use libc::{STDIN_FILENO, STDOUT_FILENO};
 use sheet::{Header, SheetRead};

@@ -1,4 +1,6 @@
 // Where an entry leads by itself: to a place in the image or the pagefile, to zeros, or to a refusal.
+#![tactic(auto)]
+
 ghost use Rattle.std.specs.Prelude.{◌≡◌, length};
 ghost use Rattle.frames.specs.Rows.{rows_page};
 ghost use Rattle.walk.specs.Walk.{frame_in, in_page, pagefile_place, settle_of};

@@ -1,4 +1,6 @@
 // Where a frame lies in the image, by the rows of the runs.
+#![tactic(auto)]
+
 ghost use Rattle.std.specs.Prelude.{◌≡◌, ◌-◌, ◌/◌, ◌≤◌, length};
 ghost use Rattle.frames.specs.Search.{search_of, halvings};
 ghost use Rattle.frames.specs.Rows.{rows_page};
@@ -6,14 +8,14 @@ ghost use Rattle.frames.specs.Rows.{rows_page};
 use entry::Frame;
 
 // The image page of a frame.
-#[derive(Drop)]
+#[derive(Clone, Copy)]
 pub enum ImagePage {
     Page(u64),
     Absent,
 }
 
 // What a search for a frame found, and how many runs it looked at.
-#[derive(Drop)]
+#[derive(Clone, Copy)]
 pub struct Search {
     pub page: ImagePage,
     pub looks: u64,

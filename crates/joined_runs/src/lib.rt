@@ -1,4 +1,6 @@
 // The given runs: whether they can be written, else 13, and those that touch joined one by one.
+#![tactic(auto)]
+
 ghost use Rattle.std.specs.Prelude.{◌≡◌, ◌≤◌, ◌<◌, ◌^◌, length};
 ghost use Rattle.sheet.specs.Sheet.{end_of};
 ghost use Rattle.sheet_limits.specs.Write.{runs_of, follows, touches};
@@ -16,7 +18,7 @@ const TOP_PAGE: u64 = 0x1000000000;
 const WHOLE: u64 = 0x1000000000;
 
 // How many runs there are once those that touch are joined, or the refusal.
-#[derive(Drop)]
+#[derive(Clone, Copy)]
 pub enum Judged {
     Runs(usize),
     Refused(Refusal),

@@ -1,4 +1,6 @@
 // What a last-level entry says, and an entry at a prototype address.
+#![tactic(auto)]
+
 ghost use Rattle.std.specs.Prelude.{◌≡◌, ◌<◌, ◌^◌};
 ghost use Rattle.entry.specs.Entry.{valid_of, transition, software_of, extended, leaf_of, narrow_leaf_of, prototype_of};
 

@@ -1,4 +1,6 @@
 // The table of levels of each paging mode.
+#![tactic(auto)]
+
 ghost use Rattle.std.specs.Prelude.{◌≡◌};
 ghost use Rattle.entry.specs.declared.PagingMode.TheVariants.{FourLevel, Plain, Pae};
 ghost use Rattle.entry.specs.Entry.{row, level_of};

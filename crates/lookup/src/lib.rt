@@ -1,4 +1,6 @@
 // The lookup call: a map's bytes and an address, to the number and the offset that the map has for it.
+#![tactic(auto)]
+
 ghost use Rattle.std.specs.Prelude.{◌≡◌, ◌<◌, ◌^◌};
 ghost use Rattle.entry.specs.Pages.{virtual_page_of};
 ghost use Rattle.map_format.specs.Extents.{no_extent};
@@ -12,13 +14,13 @@ use entry::VirtualPage;
 use map_format::{Extent, ExtentRead, Header, HeaderRead, MappedPage};
 
 #[repr(C)]
-#[derive(Drop)]
+#[derive(Clone, Copy)]
 pub struct Found {
     pub number: u64,
     pub offset: u64,
 }
 
-#[derive(Drop)]
+#[derive(Clone, Copy)]
 pub enum PageRead {
     Answered(MappedPage),
     Refused(Fault),

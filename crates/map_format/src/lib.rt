@@ -1,4 +1,6 @@
 // The format of a map: pages joined into extents, laid out in seven-bit groups; one builder and one reader.
+#![tactic(auto)]
+
 ghost use Rattle.std.specs.Prelude.{◌≡◌, [], ◌∷◌, ◌<◌, ◌^◌};
 ghost use Rattle.base.specs.Overlay.{Wrote};
 ghost use Rattle.varint.specs.Answer.{as_number};
@@ -25,14 +27,14 @@ const VIRTUAL_PAGES: u64 = 0x1000000000;
 const FILE_PAGES: u64 = 0x1000000000;
 
 // The answer for a page: its number and, for 1 and 2, the page of the file.
-#[derive(Drop)]
+#[derive(Clone, Copy)]
 pub struct MappedPage {
     pub code: u64,
     pub file: u64,
 }
 
 // Pages of one code; for codes 1 and 2 `first` is the first page of the file.
-#[derive(Drop)]
+#[derive(Clone, Copy)]
 pub struct Extent {
     pub code: u64,
     pub pages: u64,
@@ -40,26 +42,26 @@ pub struct Extent {
 }
 
 // The range of a map: its first page and how many pages.
-#[derive(Drop)]
+#[derive(Clone, Copy)]
 pub struct Header {
     pub start: VirtualPage,
     pub count: u64,
 }
 
-#[derive(Drop)]
+#[derive(Clone, Copy)]
 pub enum HeaderRead {
     Fields(Header, usize),
     Refused(Fault),
 }
 
-#[derive(Drop)]
+#[derive(Clone, Copy)]
 pub enum ExtentRead {
     Taken(Extent, usize),
     Refused(Fault),
 }
 
 // The open extent, of 0 pages where there is none yet, and the place after what was written.
-#[derive(Drop)]
+#[derive(Clone, Copy)]
 pub struct Builder {
     pub at: usize,
     pub code: u64,

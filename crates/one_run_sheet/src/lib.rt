@@ -1,4 +1,6 @@
 // Sheets of edition 1 with one run, each number in at most three groups, without a loop and without rows.
+#![tactic(auto)]
+
 ghost use Rattle.std.specs.Prelude.{length};
 ghost use Rattle.sheet.specs.Sheet.{sheet_of};
 ghost use Rattle.one_run_sheet.specs.OneRun.{Told, RestTold};
@@ -11,7 +13,7 @@ use varint::ShortNumber;
 const TOP_PAGE: u64 = 0x1000000000;
 
 // The directory page and the run of an accepted sheet, or that it must be read otherwise.
-#[derive(Drop)]
+#[derive(Clone, Copy)]
 pub enum OneRun {
     Fields(Frame, Run),
     Other,

@@ -1,4 +1,6 @@
 // Down the tables of PAE.
+#![tactic(auto)]
+
 ghost use Rattle.std.specs.Prelude.{◌≡◌, ◌*◌, ◌<◌, length, true, []};
 ghost use Rattle.entry.specs.Entry.{level_of};
 ghost use Rattle.entry.specs.declared.PagingMode.TheVariants.{Pae};

@@ -1,4 +1,6 @@
 // The page call's bytes, copied for callers outside, who cannot take a part of a slice; exported for the tests alone.
+#![tactic(auto)]
+
 ghost use Rattle.std.specs.Prelude.{◌≡◌};
 ghost use Rattle.std.proofs.lemmas.List.Edits.{sets};
 ghost use Rattle.base.specs.Overlay.{Wrote};

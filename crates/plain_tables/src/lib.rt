@@ -1,4 +1,6 @@
 // Down the tables of the plain 32-bit mode.
+#![tactic(auto)]
+
 ghost use Rattle.std.specs.Prelude.{◌≡◌, length, false, []};
 ghost use Rattle.entry.specs.Entry.{level_of};
 ghost use Rattle.entry.specs.declared.PagingMode.TheVariants.{Plain};

@@ -1,4 +1,6 @@
 // The pool headers of an image of a 32-bit machine.
+#![tactic(auto)]
+
 ghost use Rattle.std.specs.Prelude.{◌≡◌, true, ◌||◌, ◌+◌, ◌-◌, ◌*◌, ◌%◌, ◌≤◌, ◌<◌, leb, eqb, length};
 ghost use Rattle.base.specs.Notation.{bits};
 ghost use Rattle.base.specs.Overlay.{Wrote};

@@ -1,4 +1,6 @@
 // The process list: nodes linked forward and back from a head.
+#![tactic(auto)]
+
 ghost use Rattle.std.specs.Prelude.{◌≡◌, ◌+◌, ◌%◌, ◌≤◌, length};
 ghost use Rattle.walk.specs.Rows.{four_levels, rows_world, WordInside};
 ghost use Rattle.case.specs.Case.{case_of};
@@ -18,14 +20,14 @@ const MOST_PROCESSES: u64 = 4096;
 const LAST_LINK: u64 = 0xFFFFFFFFFFFFFFF7;
 
 // The address that a link has, or the refusal met on the way to it.
-#[derive(Drop)]
+#[derive(Clone, Copy)]
 pub enum Linked {
     Address(u64),
     Refused(Refusal),
 }
 
 // The count of nodes of a list that closes, or the first refusal.
-#[derive(Drop)]
+#[derive(Clone, Copy)]
 pub enum Followed {
     Closed(u64),
     Refused(Refusal),

@@ -1,4 +1,6 @@
 // The search of the image for a processor block.
+#![tactic(auto)]
+
 ghost use Rattle.std.specs.Prelude.{◌≡◌, ◌+◌, ◌*◌, ◌/◌, ◌%◌, ◌<◌, ◌≤◌, length};
 ghost use Rattle.case.specs.Case.{case_of};
 ghost use Rattle.case.specs.Inner.{row_numbers};

@@ -1,4 +1,6 @@
 // The read call: bytes of a case from an address on.
+#![tactic(auto)]
+
 ghost use Rattle.std.specs.Prelude.{◌≡◌, ◌||◌, ◌+◌, ◌%◌, ◌≤◌, min, length, take, drop, replicate};
 ghost use Rattle.std.proofs.lemmas.List.Edits.{sets};
 ghost use Rattle.walk.specs.Walk.{resolve_of};
@@ -16,7 +18,7 @@ use walk::Place;
 
 // 01's number, how many bytes were read, and 1 if one of them came from a page of zeros.
 #[repr(C)]
-#[derive(Drop)]
+#[derive(Clone, Copy)]
 pub struct BytesRead {
     pub number: u64,
     pub length: u64,
@@ -24,7 +26,7 @@ pub struct BytesRead {
 }
 
 // All bytes, and whether one came from a page of zeros; or the refusal of the first byte that has one.
-#[derive(Drop)]
+#[derive(Clone, Copy)]
 pub enum Filled {
     AllRead(bool),
     Refused(Refusal),

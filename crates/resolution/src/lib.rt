@@ -1,4 +1,6 @@
 // Where an address of a case leads: down the tables, and by prototype addresses.
+#![tactic(auto)]
+
 ghost use Rattle.std.specs.Prelude.{◌≡◌, ℕ, ◌≤◌, List, []};
 ghost use Rattle.walk.specs.Walk.{descended, word_of, resolve_of};
 ghost use Rattle.walk.specs.Rows.{four_levels, narrow_space, rows_world, descent_of, narrow_descent, WordInside, refused_place, prototype_step, resolved_of};

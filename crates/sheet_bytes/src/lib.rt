@@ -1,4 +1,6 @@
 // The bytes of a sheet whose numbers and runs were judged: the fields before the runs, then the joined runs.
+#![tactic(auto)]
+
 ghost use Rattle.std.specs.Prelude.{◌≡◌, true, ◌≤◌, ◌<◌, ◌^◌};
 ghost use Rattle.base.specs.Overlay.{Wrote};
 ghost use Rattle.sheet.specs.Sheet.{end_of};
@@ -14,7 +16,7 @@ use sheet::{Header, Run};
 const SECOND_EDITION: u64 = 2;
 
 // The place after the runs that are written, the page at which they end, and the run after them, which the next may touch.
-#[derive(Drop)]
+#[derive(Clone, Copy)]
 struct RunWriter {
     at: usize,
     end: u64,

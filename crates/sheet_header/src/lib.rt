@@ -1,4 +1,6 @@
 // The fields of a sheet before its runs.
+#![tactic(auto)]
+
 ghost use Rattle.std.specs.Prelude.{◌≡◌};
 ghost use Rattle.varint.specs.Reader.{got};
 ghost use Rattle.varint.specs.Groups.{number};

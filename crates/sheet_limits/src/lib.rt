@@ -1,4 +1,6 @@
 // Whether what is given for a sheet is within its limits, else 12.
+#![tactic(auto)]
+
 ghost use Rattle.std.specs.Prelude.{◌≡◌};
 ghost use Rattle.sheet_limits.specs.Write.{all_below, in_limits};
 

@@ -1,4 +1,6 @@
 // The case sheet: its bytes, with the lengths of the image and the pagefile, to the address space and the runs.
+#![tactic(auto)]
+
 ghost use Rattle.std.specs.Prelude.{◌≡◌, ◌≤◌, ◌^◌};
 ghost use Rattle.sheet.specs.Sheet.{own_fields, sheet_of};
 ghost use Rattle.sheet.specs.Call.{sheet_read, SheetAnswer};

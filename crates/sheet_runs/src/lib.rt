@@ -1,4 +1,6 @@
 // The runs of a sheet, and their rows over lent numbers.
+#![tactic(auto)]
+
 ghost use Rattle.std.specs.Prelude.{◌≡◌, ◌≤◌, ◌<◌, ◌^◌};
 ghost use Rattle.sheet.specs.Sheet.{run_from, runs_from};
 ghost use Rattle.sheet.specs.Inner.{run_read, sound_run, run_of, with_row, RunsLaid};

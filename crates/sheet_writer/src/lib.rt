@@ -1,4 +1,6 @@
 // The sheet writer: an address space and given runs to the sheet's bytes, runs that touch joined.
+#![tactic(auto)]
+
 ghost use Rattle.std.specs.Prelude.{◌≡◌};
 ghost use Rattle.sheet_bytes.specs.Inner.{written_sheet, Ready};
 ghost use Rattle.sheet_writer.specs.Call.{sheet_outcome, WriteAnswer};

@@ -1,4 +1,6 @@
 // The time call: a FILETIME at an address, as two doubles.
+#![tactic(auto)]
+
 ghost use Rattle.std.specs.Prelude.{◌≡◌, ◌<◌, ◌^◌};
 ghost use Rattle.case.specs.Case.{case_of};
 ghost use Rattle.times.specs.Time.{judged};
@@ -13,7 +15,7 @@ const TICKS_LIMIT: u64 = 0x8000000000000000;
 
 // Whole seconds since 1 January 1601 UTC, and the ticks of 100 nanoseconds left over; both are whole numbers.
 #[repr(C)]
-#[derive(Drop)]
+#[derive(Clone, Copy)]
 pub struct Time {
     pub seconds: f64,
     pub ticks: f64,
@@ -21,7 +23,7 @@ pub struct Time {
 
 // The number, 0 if done, and the time, 0 and 0 if refused.
 #[repr(C)]
-#[derive(Drop)]
+#[derive(Clone, Copy)]
 pub struct TimeRead {
     pub number: u64,
     pub time: Time,

@@ -1,4 +1,6 @@
 // What an entry above the last level says.
+#![tactic(auto)]
+
 ghost use Rattle.std.specs.Prelude.{◌≡◌};
 ghost use Rattle.entry.specs.Entry.{large_of, has_reserved, upper_of};
 

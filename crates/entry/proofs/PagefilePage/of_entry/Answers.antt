@@ -3,11 +3,7 @@ use native.Mathlib.Omega.{arith}
 use Prim.Native.Nat.{◌/◌, ◌^◌}
 use mathlib.Core.Path.{◌≡◌}
 use Rattle.base.specs.Notation.{bits}
-use Rattle.entry.proofs.PagefilePage.of_entry.Statement.{statement}
-use Rattle.entry.proofs.PagefilePage.of_entry.Tie as tie
+use Rattle.entry.proofs.PagefilePage.of_entry.Goals as goal
 
-returns : tie.Need-returns
+pub returns : goal.returns
 returns c = let e = c.args.e in let page : bits e 32 63 ≡ e / 2 ^ 32 = omega arith in rw (page)
-
-pub of-entry-spec : {M : Type 1} → statement M
-of-entry-spec = tie.close (tie.spec returns)

@@ -1,0 +1,6 @@
+-- The refusal's number.
+use borrow.Author.Rules.{rules}
+use Rattle.base.proofs.not_written.Goals as goal
+
+pub returns : goal.returns
+returns c = rw c.number.ensures

@@ -1,0 +1,12 @@
+-- The groups read so far and the number that the rest gives are the whole number.
+use Prim.Native.Nat.{◌-◌}
+use native.Mathlib.Omega.{arith}
+use borrow.Author.Rules.{rules}
+use Rattle.varint.proofs.Reading.{Reading, starts, none_left, scale_small, fits, at_end, short, last, again}
+use Rattle.varint.proofs.read_number.Given as goal
+
+abbrev pub invariant-loop-left : goal.invariant-loop-left
+invariant-loop-left l = Reading l.s l.at l.value l.scale l.i l.left l.least
+
+abbrev pub decreases-loop-left : goal.decreases-loop-left
+decreases-loop-left l = l.left
