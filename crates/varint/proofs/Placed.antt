@@ -12,7 +12,7 @@ use Rattle.base.specs.Refusal.{refusal_number, unplaced}
 use Rattle.base.specs.declared.Fault.{Fault}
 use Rattle.base.specs.declared.Refusal.{Refusal}
 use Rattle.base.specs.declared.Refusal.TheVariants.{Truncated, OutOfLimits}
-use Rattle.varint.specs.Reader.{Read, got, refused, Reader, after, need}
+use Rattle.varint.specs.Reader.{Read, got, refused, Reader, after, ◌>>◌, return, need}
 use Rattle.varint.specs.Groups.{dec, begun_at, decode, number}
 use Rattle.varint.specs.Edition.{edition, edition_fields}
 
@@ -101,8 +101,8 @@ number_placed s at = go (decode s at) refl
 pub edition_placed : (s : List ℕ) (at : ℕ) → Placed s at (edition s at)
 unfolding edition
 edition_placed s at =
-    then_placed s at _ (number s at) (number_placed s at) λ n j.
-    need_placed s j _ (eqb n 1) OutOfLimits (not_blamed OutOfLimits (λ e. omega (arith, e)) (λ e. omega (arith, e))) (λ x end. here end)
+    then_placed s at (λ n. ◌>>◌ (need (eqb n 1) OutOfLimits) (return n)) (number s at) (number_placed s at) λ n j.
+    need_placed s j (λ x. return n) (eqb n 1) OutOfLimits (not_blamed OutOfLimits (λ e. omega (arith, e)) (λ e. omega (arith, e))) (λ x end. here end)
 
 pub fields_placed : (s : List ℕ) (at : ℕ) → Placed s at (edition_fields s at)
 unfolding edition_fields

@@ -7,7 +7,7 @@ use lib.Dec.{ltb}
 use lib.ListN.{length, take, drop, length-append, length-drop, take-append-drop}
 use lib.Seq.{drop_at, drop-drop, length-take-le}
 use Rattle.base.specs.declared.Refusal.TheVariants.{OutOfLimits}
-use Rattle.varint.specs.Reader.{got}
+use Rattle.varint.specs.Reader.{got, ◌>>◌, return, need}
 use Rattle.varint.specs.Groups.{encode, decode, number}
 use Rattle.varint.proofs.Reader.{came, held, returned}
 use Rattle.varint.proofs.Forms.{Bytes, Stands, round_trip, one_form}
@@ -31,7 +31,7 @@ drop_after s at xs rest e = sym (drop-drop (length xs) at s) ∙ ap (drop (lengt
 pub field_stands : (s : List ℕ) (at n next : ℕ) → Bytes s → number s at ≡ got n next → Stands s at n next
 unfolding number
 field_stands s at n next b e =
-    let c = came s _ (decode s at) n next e in
-    let t = held s _ (ltb c.value (2 ^ 36)) OutOfLimits c.at n next c.rest in
+    let c = came s (λ x. ◌>>◌ (need (ltb x (2 ^ 36)) OutOfLimits) (return x)) (decode s at) n next e in
+    let t = held s (λ _. return c.value) (ltb c.value (2 ^ 36)) OutOfLimits c.at n next c.rest in
     let same = returned c.value n c.at next t.1 in
     one_form s at n next b (rw (same.0, same.1) at c.field)

@@ -6,9 +6,9 @@ use Rattle.entry.proofs.is_canonical.Goals as goal
 pub returns-then-high-eq0 : goal.returns-then-high-eq0
 returns-then-high-eq0 c =
     let low = canonical_low _ c.ranges.address.fits c.if-high-eq0.true in
-    (low, low ∙ reaches _ c.ranges.address.fits)
+    (record { bits = low; whole = low ∙ reaches _ c.ranges.address.fits })
 
 pub returns : goal.returns
 returns c =
     let high = canonical_high _ c.ranges.address.fits c.if-high-eq0.false in
-    (high, high ∙ reaches _ c.ranges.address.fits)
+    (record { bits = high; whole = high ∙ reaches _ c.ranges.address.fits })
