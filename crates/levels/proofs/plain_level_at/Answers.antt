@@ -1,0 +1,13 @@
+-- By the number of levels below: a row of the table.
+use native.Mathlib.Omega.{arith}
+use mathlib.Core.Path.{◌∙◌}
+use Rattle.entry.specs.Entry.{level_of}
+use Rattle.entry.proofs.Levels.{top_of_plain}
+use Rattle.levels.proofs.plain_level_at.Goals as goal
+
+pub returns-then-below-eq0 : goal.returns-then-below-eq0
+unfolding level_of
+returns-then-below-eq0 c = rw (c.if-below-eq0.true, c.level_row.ensures)
+
+pub returns : goal.returns
+returns c = c.level_row-2.ensures ∙ top_of_plain _ (omega arith)
