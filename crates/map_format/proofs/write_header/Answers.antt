@@ -1,0 +1,22 @@
+-- Three numbers written one after another, each of 6 bytes at most.
+use native.Mathlib.Omega.{arith}
+use Rattle.varint.proofs.Writing.{six_at_most}
+use Rattle.map_format.proofs.Returns.{wrote_header}
+use borrow.Author.Rules.{rules}
+use Rattle.map_format.proofs.write_header.Goals as goal
+
+pub write_number-b-requires : goal.write_number-b-requires
+write_number-b-requires c =
+    let near = six_at_most 1 c.write_number-a.ensures in
+    (omega (arith, near), omega (arith, c.number.ensures, c.requires))
+
+pub write_number-requires : goal.write_number-requires
+write_number-requires c =
+    let near = six_at_most 1 c.write_number-a.ensures in
+    let next = six_at_most c.number.result c.write_number-b.ensures in
+    (omega (arith, near, next), omega (arith, c.requires))
+
+pub returns : goal.returns
+returns c =
+    let start = rw c.number.ensures at c.write_number-b.ensures in
+    wrote_header c.args.header c.write_number-a.ensures start c.write_number.ensures
