@@ -20,6 +20,7 @@ use Rattle.map_format.specs.Reading.{in_half, header_fields}
 use Rattle.map_format.specs.Inner.{as_header_read, judged_range}
 use Rattle.map_format.specs.declared.Header.{Header}
 use Rattle.map_format.specs.declared.HeaderRead.{HeaderRead}
+use Rattle.map_format.proofs.Steps.{header_of, after_edition}
 use Rattle.map_format.specs.declared.HeaderRead.TheVariants.{Fields, Refused}
 
 judging : (s : List ℕ) (h : Header) (next : ℕ) (b : Bool)
@@ -30,9 +31,6 @@ judging s h next false = refl
 pub no_fields : (s : List ℕ) (r : Fault) → edition_fields s 0 ≡ refused r → header_fields s 0 ≡ refused r
 unfolding header_fields
 no_fields s r e = rw e
-
-abbrev header_of : EditionFields → Header
-header_of f = record { start = virtual_page f.first; count = f.second }
 
 pub all_fields : (s : List ℕ) (f : EditionFields) (next : ℕ) → edition_fields s 0 ≡ got f next → judged_range (header_of f) next ≡ as_header_read (header_fields s 0)
 unfolding header_fields
@@ -56,9 +54,9 @@ in_half_lem start count h =
 pub header_range : (s : List ℕ) (at : ℕ) (h : Header) (next : ℕ) → header_fields s at ≡ got h next → Range h.start h.count
 unfolding header_fields
 header_range s at h next e =
-    let c = came s _ (edition_fields s at) h next e in
+    let c = came s after_edition (edition_fields s at) h next e in
     let f = c.value in
-    let t = held s _ (in_half (virtual_page f.first) f.second) OutOfLimits c.at h next c.rest in
+    let t = held s (λ x. return (header_of f)) (in_half (virtual_page f.first) f.second) OutOfLimits c.at h next c.rest in
     let same = (returned (header_of f) h c.at next t.1).0 in
     rw (← same) (in_half_lem (virtual_page f.first) f.second t.0)
 

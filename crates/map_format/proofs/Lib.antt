@@ -1,4 +1,5 @@
 pub mod Answers
+pub mod Steps
 pub mod Pages
 pub mod Fewest
 pub mod Returns

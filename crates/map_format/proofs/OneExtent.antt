@@ -26,6 +26,7 @@ use Rattle.map_format.specs.Inner.{FieldsInLimits, as_extent_read, judged_extent
 use Rattle.map_format.specs.declared.ExtentRead.{ExtentRead}
 use Rattle.map_format.specs.declared.ExtentRead.TheVariants.{Taken, Refused}
 use Rattle.map_format.proofs.Rules.{KeepsRules}
+use Rattle.map_format.proofs.Steps.{after_code, after_listed, after_length, after_first}
 
 judging : (s : List ℕ) (e : Extent) (next : ℕ) (b : Bool)
     → (if b then Taken e next else Refused (unplaced BadExtent)) ≡ as_extent_read (after s (λ (x : Unit {0}). return e) (if b then got tt next else refused (unplaced BadExtent)))
@@ -117,11 +118,11 @@ sound_keeps left prev e l q t =
 pub extent_keeps : (s : List ℕ) (at left : ℕ) (prev e : Extent) (next : ℕ) → extent_from left prev s at ≡ got e next → WithPagesLeft left e
 unfolding extent_from
 extent_keeps s at left prev e next w =
-    let c₁ = came s _ (number s at) e next w in
-    let t₁ = held s _ (is_code c₁.value) BadExtent c₁.at e next c₁.rest in
-    let c₂ = came s _ (number s c₁.at) e next t₁.1 in
-    let c₃ = came s _ (first_from c₁.value s c₂.at) e next c₂.rest in
-    let t₂ = held s _ (sound left prev (extent c₁.value c₂.value c₃.value)) BadExtent c₃.at e next c₃.rest in
+    let c₁ = came s (after_code left prev) (number s at) e next w in
+    let t₁ = held s (λ x. after_listed left prev c₁.value) (is_code c₁.value) BadExtent c₁.at e next c₁.rest in
+    let c₂ = came s (after_length left prev c₁.value) (number s c₁.at) e next t₁.1 in
+    let c₃ = came s (after_first left prev c₁.value c₂.value) (first_from c₁.value s c₂.at) e next c₂.rest in
+    let t₂ = held s (λ x. return (extent c₁.value c₂.value c₃.value)) (sound left prev (extent c₁.value c₂.value c₃.value)) BadExtent c₃.at e next c₃.rest in
     let same = (returned (extent c₁.value c₂.value c₃.value) e c₃.at next t₂.1).0 in
     let q = in_limits_lem s at left prev c₁.value c₁.at c₁.field t₁.0 c₂.value c₂.at c₂.field c₃.value c₃.at c₃.field in
     rw same at (sound_keeps left prev (extent c₁.value c₂.value c₃.value) t₁.0 q t₂.0)

@@ -10,12 +10,13 @@ use borrow.Author.Tests.{eq-eqb, ne_eqb, lt-ltb, le-ltb}
 use Rattle.base.specs.Codes.{is_code}
 use Rattle.base.specs.declared.Refusal.TheVariants.{TrailingBytes}
 use Rattle.base.proofs.Test.{Test, test, below, above}
-use Rattle.varint.specs.Reader.{got}
+use Rattle.varint.specs.Reader.{got, return}
 use Rattle.varint.proofs.Reader.{came, held, returned}
 use Rattle.map_format.specs.Extents.{no_extent, page_at, extent_pages}
 use Rattle.map_format.specs.Reading.{header_fields, extent_from, extents_from, Map, map_fields}
 use Rattle.map_format.specs.declared.Extent.{Extent}
 use Rattle.map_format.proofs.OneExtent.{WithPagesLeft, extent_keeps}
+use Rattle.map_format.proofs.Steps.{after_extent, after_extents, after_header}
 
 -- every extent has a listed code
 abbrev pub Listed : List Extent → Type 0
@@ -46,19 +47,19 @@ extents_cover (suc n) left prev s at es next l w = go (test 0 left) (λ e i rest
         let z : left ≡ 0 = omega arith in
         covers_none left es z (returned [] es at next (rw (eq-eqb left 0 z) at w)).0
     go (below h) ih =
-        let c₁ = came s _ (extent_from left prev s at) es next (rw (ne_eqb left 0 (λ z. omega arith)) at w) in
+        let c₁ = came s (after_extent n left) (extent_from left prev s at) es next (rw (ne_eqb left 0 (λ z. omega arith)) at w) in
         let e = c₁.value in
         let q = extent_keeps s at left prev e c₁.at c₁.field in
-        let c₂ = came s _ (extents_from n (left - e.pages) e s c₁.at) es next c₁.rest in
+        let c₂ = came s (λ es. return (e ∷ es)) (extents_from n (left - e.pages) e s c₁.at) es next c₁.rest in
         covers_one left e c₂.value es q (ih e c₁.at c₂.value c₂.at q.rules.some c₂.field) (returned (e ∷ c₂.value) es c₂.at next c₂.rest).0
 
 pub map_covers : (s : List ℕ) (m : Map) (at : ℕ) → map_fields s 0 ≡ got m at → Covering m.header.count m.extents
 unfolding map_fields
 map_covers s m at w =
-    let c₁ = came s _ (header_fields s 0) m at w in
+    let c₁ = came s after_header (header_fields s 0) m at w in
     let h = c₁.value in
-    let c₂ = came s _ (extents_from h.count h.count no_extent s c₁.at) m at c₁.rest in
-    let t = held s _ (eqb c₂.at (length s)) TrailingBytes c₂.at m at c₂.rest in
+    let c₂ = came s (after_extents h) (extents_from h.count h.count no_extent s c₁.at) m at c₁.rest in
+    let t = held s (λ x. return (record { header = h; extents = c₂.value })) (eqb c₂.at (length s)) TrailingBytes c₂.at m at c₂.rest in
     let same = (returned (record { header = h; extents = c₂.value }) m c₂.at at t.1).0 in
     rw (← same) (extents_cover h.count h.count no_extent s c₁.at c₂.value c₂.at (omega arith) c₂.field)
 

@@ -1,6 +1,5 @@
 -- Each return is the law of the first rule that decides, with the tests before it.
 use Rattle.map_format.proofs.Rules.{no_pages, past_count, past_top, first_one, other_code, same_code}
-use borrow.Author.Rules.{rules}
 use Rattle.map_format.proofs.is_sound.Goals as goal
 
 pub returns-then-e-lt1 : goal.returns-then-e-lt1

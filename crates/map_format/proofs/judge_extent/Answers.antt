@@ -1,6 +1,5 @@
 -- The two outcomes of `is_sound`.
 use Rattle.map_format.proofs.Rules.{kept, broken}
-use borrow.Author.Rules.{rules}
 use Rattle.map_format.proofs.judge_extent.Goals as goal
 
 pub returns-then-is_sound : goal.returns-then-is_sound

@@ -2,7 +2,6 @@
 use native.Mathlib.Omega.{arith}
 use borrow.Author.Tests.{lt-ltb, le-ltb, le-leb, lt-leb}
 use Prim.Native.Nat.{◌+◌, ◌^◌}
-use borrow.Author.Rules.{rules}
 use Rattle.map_format.proofs.judge_range.Goals as goal
 
 pub returns-then-count-lt1 : goal.returns-then-count-lt1

@@ -1,6 +1,5 @@
 -- The two outcomes of `has_file_page`.
 use Rattle.map_format.proofs.Returns.{page_on, page_same}
-use borrow.Author.Rules.{rules}
 use Rattle.map_format.proofs.page_after.Goals as goal
 
 pub returns-then-has_file_page : goal.returns-then-has_file_page

@@ -1,20 +1,18 @@
 -- Each return cites the law for how far the reading came: the fields that were read, and the refusal that ended it.
 use mathlib.Core.Path.{sym, ◌∙◌}
-use borrow.Author.Tests.{not-true, not-false}
 use Rattle.varint.proofs.Fields.{value_got, refused_bad}
 use Rattle.map_format.proofs.OneExtent.{no_code, no_such_code, no_length, no_first, in_limits_lem, extent_read}
-use borrow.Author.Rules.{rules}
 use Rattle.map_format.proofs.read_extent.Goals as goal
 
 pub returns-then-not-is_code : goal.returns-then-not-is_code
 returns-then-not-is_code c =
     let code = value_got _ _ _ _ c.read_field.ensures c.in-Value.is in
-    rw (c.unplaced.ensures, no_such_code _ _ _ _ _ _ code (sym c.is_code.ensures ∙ not-true _ c.if-not-is_code.true))
+    rw (c.unplaced.ensures, no_such_code _ _ _ _ _ _ code (sym c.is_code.ensures ∙ c.if-not-is_code.true))
 
 pub judge_extent-requires : goal.judge_extent-requires
 judge_extent-requires c =
     let code = value_got _ _ _ _ c.read_field.ensures c.in-Value.is in
-    let listed = sym c.is_code.ensures ∙ not-false _ c.if-not-is_code.false in
+    let listed = sym c.is_code.ensures ∙ c.if-not-is_code.false in
     let pages = value_got _ _ _ _ c.read_field-in-Value.ensures c.in-Value-read_field.is in
     let first = value_got _ _ _ _ c.read_first.ensures c.in-Value-read_first.is in
     (c.requires, in_limits_lem _ _ c.args.left c.args.prev _ _ code listed _ _ pages _ _ first)
@@ -25,14 +23,14 @@ returns-in-Refused c = rw (no_code _ _ _ _ _ (refused_bad _ _ _ c.read_field.ens
 pub returns-in-Refused-read_field : goal.returns-in-Refused-read_field
 returns-in-Refused-read_field c =
     let code = value_got _ _ _ _ c.read_field.ensures c.in-Value.is in
-    let listed = sym c.is_code.ensures ∙ not-false _ c.if-not-is_code.false in
+    let listed = sym c.is_code.ensures ∙ c.if-not-is_code.false in
     let no_number = refused_bad _ _ _ c.read_field-in-Value.ensures c.in-Refused-read_field.is in
     rw (no_length _ _ _ _ _ _ code listed _ no_number)
 
 pub returns-in-Refused-read_first : goal.returns-in-Refused-read_first
 returns-in-Refused-read_first c =
     let code = value_got _ _ _ _ c.read_field.ensures c.in-Value.is in
-    let listed = sym c.is_code.ensures ∙ not-false _ c.if-not-is_code.false in
+    let listed = sym c.is_code.ensures ∙ c.if-not-is_code.false in
     let pages = value_got _ _ _ _ c.read_field-in-Value.ensures c.in-Value-read_field.is in
     let no_number = refused_bad _ _ _ c.read_first.ensures c.in-Refused-read_first.is in
     rw (no_first _ _ _ _ _ _ code listed _ _ pages _ no_number)
@@ -40,7 +38,7 @@ returns-in-Refused-read_first c =
 pub returns-in-Value-read_first : goal.returns-in-Value-read_first
 returns-in-Value-read_first c =
     let code = value_got _ _ _ _ c.read_field.ensures c.in-Value.is in
-    let listed = sym c.is_code.ensures ∙ not-false _ c.if-not-is_code.false in
+    let listed = sym c.is_code.ensures ∙ c.if-not-is_code.false in
     let pages = value_got _ _ _ _ c.read_field-in-Value.ensures c.in-Value-read_field.is in
     let first = value_got _ _ _ _ c.read_first.ensures c.in-Value-read_first.is in
     rw c.judge_extent.ensures (extent_read _ _ _ _ _ _ code listed _ _ pages _ _ first)

@@ -2,7 +2,6 @@
 use native.Mathlib.Omega.{arith}
 use Rattle.varint.proofs.Writing.{six_at_most}
 use Rattle.map_format.proofs.Returns.{wrote_page, wrote_no_page}
-use borrow.Author.Rules.{rules}
 use Rattle.map_format.proofs.write_extent.Goals as goal
 
 pub write_number-b-requires : goal.write_number-b-requires

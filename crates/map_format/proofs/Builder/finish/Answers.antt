@@ -1,6 +1,5 @@
 -- An open extent is written as it stands; without one nothing is.
 use Rattle.map_format.proofs.Returns.{open_some, open_none}
-use borrow.Author.Rules.{rules}
 use Rattle.map_format.proofs.Builder.finish.Goals as goal
 
 pub returns-then-self-gt0 : goal.returns-then-self-gt0

@@ -1,6 +1,5 @@
 -- No open extent, another code, or the file page that would come next: each return is one test of `follows_of`.
 use Rattle.map_format.proofs.Returns.{not_open, other_code, same_code}
-use borrow.Author.Rules.{rules}
 use Rattle.map_format.proofs.Builder.follows.Goals as goal
 
 pub returns-then-self-eq0 : goal.returns-then-self-eq0

@@ -1,6 +1,5 @@
 -- The page follows and the open extent is longer, or the open extent is written and the page opens the next.
 use Rattle.map_format.proofs.Returns.{longer, opened}
-use borrow.Author.Rules.{rules}
 use Rattle.map_format.proofs.Builder.push.Goals as goal
 
 pub returns-then-follows : goal.returns-then-follows
