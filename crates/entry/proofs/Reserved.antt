@@ -1,7 +1,7 @@
 -- A valid entry with bit 7 set, by the level's reserved bits; without such bits it is judged as where none are looked at.
 use mathlib.Core.Path.{◌≡◌, refl, ap}
 use mathlib.Core.Bool.{Bool, true, false, not, ◌&&◌}
-use Prim.Native.Nat.{ℕ, ◌/◌, ◌%◌, ◌^◌}
+use Prim.Native.Nat.{ℕ}
 use native.Mathlib.Omega.{arith}
 use borrow.Author.Tests.{eq-eqb}
 use Rattle.base.specs.Notation.{if◌then◌else◌, bits, bit}

@@ -11,7 +11,7 @@ use Rattle.base.specs.Refusal.{unplaced}
 use Rattle.base.specs.declared.Fault.{Fault}
 use Rattle.base.specs.declared.Refusal.TheVariants.{OutOfLimits}
 use Rattle.base.proofs.Test.{both_true}
-use Rattle.varint.specs.Reader.{Read, got, refused}
+use Rattle.varint.specs.Reader.{Read, got, refused, ◌>>=◌, ◌>>◌, return, need}
 use Rattle.varint.specs.Groups.{number}
 use Rattle.varint.proofs.Reader.{came, held, returned}
 use Rattle.entry.specs.declared.PagingMode.{PagingMode}
@@ -116,11 +116,11 @@ pub record ModeParts (s : List ℕ) (at : ℕ) (m : PagingMode) (next : ℕ) : T
 pub mode_parts : (s : List ℕ) (at : ℕ) (m : PagingMode) (next : ℕ) → mode_fields s at ≡ got m next → ModeParts s at m next
 unfolding mode_fields
 mode_parts s at m next e =
-    let c₁ = came s _ (number s at) m next e in
+    let c₁ = came s (λ n. ◌>>◌ (need (within 1 2 n) OutOfLimits) (◌>>=◌ number (λ place. ◌>>◌ (need (is_place n place) OutOfLimits) (return (paging_mode n place))))) (number s at) m next e in
     let n = c₁.value in
-    let t₁ = held s _ (within 1 2 n) OutOfLimits c₁.at m next c₁.rest in
-    let c₂ = came s _ (number s c₁.at) m next t₁.1 in
-    let t₂ = held s _ (is_place n c₂.value) OutOfLimits c₂.at m next c₂.rest in
+    let t₁ = held s (λ _. ◌>>=◌ number (λ place. ◌>>◌ (need (is_place n place) OutOfLimits) (return (paging_mode n place)))) (within 1 2 n) OutOfLimits c₁.at m next c₁.rest in
+    let c₂ = came s (λ place. ◌>>◌ (need (is_place n place) OutOfLimits) (return (paging_mode n place))) (number s c₁.at) m next t₁.1 in
+    let t₂ = held s (λ _. return (paging_mode n c₂.value)) (is_place n c₂.value) OutOfLimits c₂.at m next c₂.rest in
     let same = returned (paging_mode n c₂.value) m c₂.at next t₂.1 in
     let limits = both_true (leb 1 n) (leb n 2) t₁.0 in
     let own = numbered n c₂.value (leb-true n 2 limits.1) t₂.0 in

@@ -3,7 +3,7 @@ use mathlib.Core.Path.{◌≡◌, refl, sym, ap, ◌∙◌}
 use mathlib.Core.Logic.{◌⊎◌, inl, inr}
 use mathlib.Core.Bool.{Bool, true, false}
 use mathlib.Core.List.{List, [], ◌∷◌}
-use Prim.Native.Nat.{ℕ, zero, suc, ◌^◌, ◌<◌}
+use Prim.Native.Nat.{ℕ, ◌^◌, ◌<◌}
 use native.Mathlib.Omega.{arith}
 use lib.Dec.{ltb, eqb}
 use lib.ListN.{length, drop, length-drop}
@@ -14,7 +14,7 @@ use Rattle.base.specs.declared.Refusal.{Refusal}
 use Rattle.base.specs.declared.Refusal.TheVariants.{Truncated, OutOfLimits}
 use Rattle.varint.specs.Reader.{Read, got, refused, Reader, after, ◌>>◌, return, need, ◌>>=◌}
 use Rattle.varint.specs.Groups.{dec, begun_at, decode, number}
-use Rattle.varint.specs.Edition.{edition, edition_fields, EditionFields}
+use Rattle.varint.specs.Edition.{edition, edition_fields}
 
 -- the numbers that show a position
 abbrev pub Blamed : Refusal → Type 0
@@ -107,6 +107,6 @@ edition_placed s at =
 pub fields_placed : (s : List ℕ) (at : ℕ) → Placed s at (edition_fields s at)
 unfolding edition_fields
 fields_placed s at =
-    then_placed s at (λ x'. ◌>>=◌ {B = EditionFields} number (λ first. ◌>>=◌ {B = EditionFields} number (λ second. return {A = EditionFields} record {first = first; second = second}))) (edition s at) (edition_placed s at) λ n a.
-    then_placed s a (λ x'. ◌>>=◌ {B = EditionFields} number (λ second. return {A = EditionFields} record {first = x'; second = second})) (number s a) (number_placed s a) λ x b.
-    then_placed s b (λ x''. return {A = EditionFields} record {first = x; second = x''}) (number s b) (number_placed s b) λ y c. here c
+    then_placed s at (λ n. ◌>>=◌ number (λ first. ◌>>=◌ number (λ second. return record { first = first; second = second }))) (edition s at) (edition_placed s at) λ n a.
+    then_placed s a (λ x. ◌>>=◌ number (λ second. return record { first = x; second = second })) (number s a) (number_placed s a) λ x b.
+    then_placed s b (λ y. return record { first = x; second = y }) (number s b) (number_placed s b) λ y c. here c

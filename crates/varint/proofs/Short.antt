@@ -11,7 +11,7 @@ use Rattle.base.specs.Notation.{if◌then◌else◌}
 use Rattle.base.specs.declared.Fault.{Fault}
 use Rattle.base.proofs.Test.{Test, test, below, above}
 use Rattle.varint.specs.Reader.{Read, got, refused}
-use Rattle.varint.specs.Groups.{dec, begun_at, decode, number}
+use Rattle.varint.specs.Groups.{dec, decode, number}
 use Rattle.varint.specs.Answer.{as_number, short_of}
 use Rattle.varint.specs.declared.Number.TheVariants.{Value, Refused}
 use Rattle.varint.specs.declared.ShortNumber.{ShortNumber}

@@ -1,7 +1,7 @@
 -- 01 "Case sheet", "Maps": a sheet and a map open with edition 1 and two fields.
 use Rattle.std.specs.Prelude.{ℕ, eqb}
 use Rattle.base.specs.declared.Refusal.TheVariants.{OutOfLimits}
-use Rattle.varint.specs.Reader.{Read, got, refused, Reader, ◌>>=◌, ◌>>◌, return, need}
+use Rattle.varint.specs.Reader.{Reader, ◌>>=◌, ◌>>◌, return, need}
 use Rattle.varint.specs.Groups.{number}
 
 -- another edition is 12 before the next field is read

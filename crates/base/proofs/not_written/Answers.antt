@@ -1,5 +1,4 @@
 -- The refusal's number.
-use borrow.Author.Rules.{rules}
 use Rattle.base.proofs.not_written.Goals as goal
 
 pub returns : goal.returns

@@ -1,7 +1,6 @@
 -- A store where the place is inside; past the end `set` changes nothing.
 use lib.Seq.{set_out}
 use mathlib.Core.Path.{sym}
-use borrow.Author.Rules.{rules}
 use Rattle.base.proofs.put_number.Goals as goal
 
 pub returns-else-at-out : goal.returns-else-at-out

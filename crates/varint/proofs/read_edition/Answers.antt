@@ -1,5 +1,4 @@
 -- The number, if it is edition 1.
-use borrow.Author.Rules.{rules}
 use Rattle.varint.proofs.Fields.{value_got, refused_bad}
 use Rattle.varint.proofs.Edition.{no_edition, other_edition, one_edition}
 use Rattle.varint.proofs.read_edition.Goals as goal

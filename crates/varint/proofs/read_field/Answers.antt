@@ -1,5 +1,4 @@
 -- A first group without its top bit is the number; any other number, if it is below the limit.
-use borrow.Author.Rules.{rules}
 use Rattle.varint.proofs.Fields.{value_got, refused_bad, one_group, field_small, field_large, field_bad}
 use Rattle.varint.proofs.read_field.Goals as goal
 

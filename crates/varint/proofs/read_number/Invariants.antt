@@ -1,8 +1,5 @@
 -- The groups read so far and the number that the rest gives are the whole number.
-use Prim.Native.Nat.{◌-◌}
-use native.Mathlib.Omega.{arith}
-use borrow.Author.Rules.{rules}
-use Rattle.varint.proofs.Reading.{Reading, starts, none_left, scale_small, fits, at_end, short, last, again}
+use Rattle.varint.proofs.Reading.{Reading}
 use Rattle.varint.proofs.read_number.Given as goal
 
 abbrev pub invariant-loop-left : goal.invariant-loop-left

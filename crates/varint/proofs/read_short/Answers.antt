@@ -1,5 +1,4 @@
 -- Each return cites the law for how far the groups go.
-use borrow.Author.Rules.{rules}
 use Rattle.varint.proofs.Short.{no_group, one_group, no_second, second_zero, two_groups, no_third, third_zero, three_groups, more_groups}
 use Rattle.varint.proofs.read_short.Goals as goal
 

@@ -1,7 +1,6 @@
 -- The groups written so far and those of what is left are the number's form.
 use native.Mathlib.Omega.{arith}
-use borrow.Author.Rules.{rules}
-use Rattle.varint.proofs.Writing.{Going, near, again, ended}
+use Rattle.varint.proofs.Writing.{near, again, ended}
 use Rattle.varint.proofs.write_number.Goals as goal
 
 pub overflow_add-i : goal.overflow_add-i

@@ -1,7 +1,5 @@
 -- The groups written so far and those of what is left are the number's form.
-use native.Mathlib.Omega.{arith}
-use borrow.Author.Rules.{rules}
-use Rattle.varint.proofs.Writing.{Going, near, again, ended}
+use Rattle.varint.proofs.Writing.{Going}
 use Rattle.varint.proofs.write_number.Given as goal
 
 abbrev pub invariant-loop-m : goal.invariant-loop-m

@@ -1,6 +1,5 @@
 -- Four bytes, each times its weight.
 use Rattle.words.proofs.Bytes.{dword_bytes}
-use borrow.Author.Rules.{rules}
 use Rattle.words.proofs.dword_at.Goals as goal
 
 pub returns : goal.returns

@@ -1,6 +1,5 @@
 -- Eight bytes, each times its weight, are the little-endian word.
 use Rattle.words.proofs.Bytes.{word_bytes}
-use borrow.Author.Rules.{rules}
 use Rattle.words.proofs.word_at.Goals as goal
 
 pub returns : goal.returns

@@ -1,5 +1,4 @@
 -- The two tests of the number, in the definition's order.
-use borrow.Author.Rules.{rules}
 use Rattle.base.proofs.Positions.{too_long_shown, not_shortest_shown, others_show_none}
 use Rattle.base.proofs.Fault.shown_position.Goals as goal
 

@@ -1,5 +1,4 @@
 -- Case by case.
-use borrow.Author.Rules.{rules}
 use Rattle.base.proofs.Refusal.number.Goals as goal
 
 pub returns-in-Truncated : goal.returns-in-Truncated
