@@ -7,7 +7,7 @@ use lib.ListN.{replicate}
 use Rattle.base.specs.Example.{Example, same, Hold}
 use Rattle.base.specs.Written.{unwritten, written}
 use Rattle.base.specs.declared.Refusal.TheVariants.{ImageNotWholePages}
-use Rattle.words.specs.Words.{word_at, little_at}
+use Rattle.words.specs.Words.{little_at}
 use Rattle.pool.specs.Pool.{is_header, headers_from}
 use Rattle.pool.specs.Call.{headers_call}
 

@@ -1,5 +1,4 @@
 -- Below the start, or so far above it.
-use borrow.Author.Rules.{rules}
 use native.Mathlib.Omega.{arith}
 use Rattle.lookup.proofs.Address.{page_below, page_above}
 use Rattle.lookup.proofs.is_in_range.Goals as goal

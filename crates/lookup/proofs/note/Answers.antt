@@ -1,6 +1,5 @@
 -- Page k lies before the extent, after it, or in it.
 use Rattle.lookup.proofs.ManyExtents.{before_it, after_it, in_it}
-use borrow.Author.Rules.{rules}
 use Rattle.lookup.proofs.note.Goals as goal
 
 pub returns-then-k-done : goal.returns-then-k-done

@@ -1,8 +1,7 @@
 -- The loop keeps `Looking`: what is left to read, with the answer so far, gives the answer of the whole.
-use borrow.Author.Rules.{rules}
 use native.Mathlib.Omega.{arith}
 use Rattle.map_format.proofs.OneExtent.{extent_keeps, extent_got, extent_refused}
-use Rattle.lookup.proofs.ManyExtents.{Looking, starts, no_extent_read, again, trailing, answered}
+use Rattle.lookup.proofs.ManyExtents.{starts, no_extent_read, again, trailing, answered}
 use Rattle.lookup.proofs.read_page.Goals as goal
 
 pub loop-left-init : goal.loop-left-init
@@ -13,8 +12,8 @@ read_extent-requires c = c.loop-left.invariant.limits
 
 pub returns-in-Refused : goal.returns-in-Refused
 returns-in-Refused c =
-    let no-extent = extent_refused _ _ _ c.read_extent.ensures c.in-Refused.is in
-    (no_extent_read c.loop-left.invariant c.loop-left-test.true _ no-extent, tt)
+    let no_extent = extent_refused _ _ _ c.read_extent.ensures c.in-Refused.is in
+    record { same = no_extent_read c.loop-left.invariant c.loop-left-test.true _ no_extent; low = tt }
 
 pub overflow_sub-count : goal.overflow_sub-count
 overflow_sub-count c = c.loop-left.invariant.part
@@ -34,7 +33,7 @@ loop-left-preserved c =
     rw c.note-page.ensures (again c.loop-left.invariant c.loop-left-test.true _ _ taken)
 
 pub returns-then-at-s : goal.returns-then-at-s
-returns-then-at-s c = (rw c.unplaced.ensures (trailing c.loop-left.invariant c.loop-left-test.false c.if-at-s.true), tt)
+returns-then-at-s c = record { same = rw c.unplaced.ensures (trailing c.loop-left.invariant c.loop-left-test.false c.if-at-s.true); low = tt }
 
 pub returns : goal.returns
-returns c = (answered c.loop-left.invariant c.loop-left-test.false c.if-at-s.false c.requires, c.loop-left.invariant.low)
+returns c = record { same = answered c.loop-left.invariant c.loop-left-test.false c.if-at-s.false c.requires; low = c.loop-left.invariant.low }

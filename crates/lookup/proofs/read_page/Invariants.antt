@@ -1,8 +1,5 @@
 -- The loop keeps `Looking`: what is left to read, with the answer so far, gives the answer of the whole.
-use borrow.Author.Rules.{rules}
-use native.Mathlib.Omega.{arith}
-use Rattle.map_format.proofs.OneExtent.{extent_keeps, extent_got, extent_refused}
-use Rattle.lookup.proofs.ManyExtents.{Looking, starts, no_extent_read, again, trailing, answered}
+use Rattle.lookup.proofs.ManyExtents.{Looking}
 use Rattle.lookup.proofs.read_page.Given as goal
 
 abbrev pub invariant-loop-left : goal.invariant-loop-left

@@ -3,7 +3,6 @@ use mathlib.Core.Path.{refl}
 use lib.ListN.{length-take}
 use native.Mathlib.Omega.{arith}
 use Rattle.pool.proofs.Meaning.{room_for_words, nothing_written}
-use borrow.Author.Rules.{rules}
 use Rattle.pool.proofs.headers_fit.Goals as goal
 
 pub returns-then-image-places : goal.returns-then-image-places

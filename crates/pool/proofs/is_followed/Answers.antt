@@ -3,7 +3,6 @@ use Prim.Native.Nat.{◌+◌, ◌*◌, ◌%◌}
 use mathlib.Core.Path.{sym}
 use native.Mathlib.Omega.{arith}
 use borrow.Author.Tests.{le-leb, lt-leb}
-use borrow.Author.Rules.{rules}
 use Rattle.pool.proofs.is_followed.Goals as goal
 
 pub returns-then-o-size-ge-PAGE_BYTES : goal.returns-then-o-size-ge-PAGE_BYTES

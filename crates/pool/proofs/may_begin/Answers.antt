@@ -3,7 +3,6 @@ use mathlib.Core.Path.{sym, ap, ◌∙◌}
 use native.Mathlib.Omega.{arith}
 use Rattle.pool.specs.Inner.{may_begin}
 use Rattle.pool.proofs.Beginning.{bit_7_set, bit_15_set, bit_23_set, by_size}
-use borrow.Author.Rules.{rules}
 use Rattle.pool.proofs.may_begin.Goals as goal
 
 pub returns-then-word-ne0 : goal.returns-then-word-ne0

@@ -1,10 +1,7 @@
 -- A word that cannot begin a block holds no header.
-use Prim.Native.Nat.{◌-◌}
 use native.Mathlib.Omega.{arith}
 use mathlib.Core.Path.{sym, ◌∙◌}
-use Rattle.pool.specs.Inner.{NoneHold}
 use Rattle.pool.proofs.Listing.{none_yet, one_more}
-use borrow.Author.Rules.{rules}
 use Rattle.pool.proofs.next_beginning.Goals as goal
 
 pub loop-i-init : goal.loop-i-init

@@ -1,10 +1,6 @@
 -- A word that cannot begin a block holds no header.
 use Prim.Native.Nat.{◌-◌}
-use native.Mathlib.Omega.{arith}
-use mathlib.Core.Path.{sym, ◌∙◌}
 use Rattle.pool.specs.Inner.{NoneHold}
-use Rattle.pool.proofs.Listing.{none_yet, one_more}
-use borrow.Author.Rules.{rules}
 use Rattle.pool.proofs.next_beginning.Given as goal
 
 abbrev pub invariant-loop-i : goal.invariant-loop-i

@@ -1,14 +1,11 @@
 -- The headers before word i are laid; at the last word they are all.
 use Prim.Native.Nat.{◌*◌, ◌/◌, ◌-◌, ◌<◌}
-use mathlib.Core.Path.{◌≡◌, sym, ◌∙◌}
+use mathlib.Core.Path.{◌≡◌}
 use mathlib.Core.Bool.{true}
-use mathlib.Core.Logic.{⊎_elim}
-use native.Mathlib.Omega.{arith}
 use lib.ListN.{length}
 use Rattle.words.specs.Words.{word_at}
 use Rattle.pool.specs.Inner.{may_begin}
-use Rattle.pool.proofs.Listing.{Laying, laying_none, laying_long, laying_few, passed_word, laid_word, all_laid, none_between}
-use borrow.Author.Rules.{rules}
+use Rattle.pool.proofs.Listing.{Laying}
 use Rattle.pool.proofs.write_headers.Given as goal
 
 abbrev pub invariant-loop-i : goal.invariant-loop-i
