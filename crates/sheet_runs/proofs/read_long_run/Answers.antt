@@ -1,0 +1,24 @@
+-- Both numbers, then the run of them.
+use Rattle.varint.proofs.Fields.{value_got, refused_bad, field_below}
+use Rattle.sheet.proofs.OneRun.{no_gap, no_pages, by_numbers}
+use borrow.Author.Rules.{rules}
+use Rattle.sheet_runs.proofs.read_long_run.Goals as goal
+
+pub run_of-requires : goal.run_of-requires
+run_of-requires c =
+    (
+      field_below _ _ _ _ (value_got _ _ _ _ c.read_field.ensures c.in-Value.is),
+      (field_below _ _ _ _ (value_got _ _ _ _ c.read_field-in-Value.ensures c.in-Value-read_field.is), c.requires),
+    )
+
+pub returns-in-Refused : goal.returns-in-Refused
+returns-in-Refused c = rw (no_gap _ _ _ _ _ (refused_bad _ _ _ c.read_field.ensures c.in-Refused.is))
+
+pub returns-in-Refused-read_field : goal.returns-in-Refused-read_field
+returns-in-Refused-read_field c = rw (no_pages _ _ _ _ _ _ (value_got _ _ _ _ c.read_field.ensures c.in-Value.is) _ (refused_bad _ _ _ c.read_field-in-Value.ensures c.in-Refused-read_field.is))
+
+pub returns-in-Value-read_field : goal.returns-in-Value-read_field
+returns-in-Value-read_field c =
+    rw c.run_of.ensures
+    (by_numbers _ _ _ _ _ _ (value_got _ _ _ _ c.read_field.ensures c.in-Value.is) _ _
+    (value_got _ _ _ _ c.read_field-in-Value.ensures c.in-Value-read_field.is))

@@ -1,0 +1,13 @@
+-- The rows so far and the runs still to read are the whole; a refused run leaves the numbers free.
+use Prim.Native.Nat.{◌-◌}
+use native.Mathlib.Omega.{arith}
+use Rattle.sheet.proofs.OneRun.{follows, taken_got, refused_bad}
+use Rattle.sheet.proofs.ManyRuns.{Reading, starts, stopped, row_fits, again, ended}
+use borrow.Author.Rules.{rules}
+use Rattle.sheet_runs.proofs.read_runs.Given as goal
+
+abbrev pub invariant-loop-i : goal.invariant-loop-i
+invariant-loop-i l = Reading l.s l.from l.count l.initial.rows l.rows l.at l.i l.least l.end l.pages
+
+abbrev pub decreases-loop-i : goal.decreases-loop-i
+decreases-loop-i l = l.count - l.i
