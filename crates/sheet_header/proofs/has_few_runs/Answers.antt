@@ -1,5 +1,4 @@
 -- Each return cites the law for how far the reading came; the count is the third number of edition 1.
-use borrow.Author.Rules.{rules}
 use Rattle.varint.proofs.Fields.{value_got, refused_bad}
 use Rattle.sheet.proofs.HeaderFields.{first_known, first_mode, no_edition, no_directory, no_count}
 use Rattle.sheet.proofs.Short.{none_by_count, few_by_fields}

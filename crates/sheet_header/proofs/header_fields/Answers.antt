@@ -1,5 +1,4 @@
 -- The two limits of the count are the definition's test.
-use borrow.Author.Rules.{rules}
 use borrow.Author.Tests.{le-leb, lt-leb}
 use Rattle.sheet_header.proofs.header_fields.Goals as goal
 

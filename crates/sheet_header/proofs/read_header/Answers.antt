@@ -1,5 +1,4 @@
 -- Each return cites the law for how far the reading came: the numbers that were read, and the refusal that ended it.
-use borrow.Author.Rules.{rules}
 use Rattle.varint.proofs.Fields.{value_got, refused_bad}
 use Rattle.sheet.proofs.HeaderFields.{first_known, first_mode, no_edition, no_directory, no_count, all_fields}
 use Rattle.sheet_header.proofs.read_header.Goals as goal

@@ -1,8 +1,6 @@
 -- Each test of the code is a test of the definition, in the same order.
 use mathlib.Core.Path.{sym, ◌∙◌}
 use native.Mathlib.Omega.{arith}
-use borrow.Author.Rules.{rules}
-use borrow.Author.Tests.{not-true, not-false}
 use Rattle.varint.proofs.Fields.{value_got, refused_bad}
 use Rattle.sheet.proofs.Modes.{no_mode, low_mode, high_mode, no_place, other_place, mode_read_lem}
 use Rattle.sheet_header.proofs.read_mode.Goals as goal
@@ -21,7 +19,7 @@ pub returns-then-not-is_place : goal.returns-then-not-is_place
 returns-then-not-is_place c =
     let mode = value_got _ _ _ _ c.read_field.ensures c.in-Value.is in
     let place = value_got _ _ _ _ c.read_field-in-Value.ensures c.in-Value-read_field.is in
-    let no = sym c.is_place.ensures ∙ not-true _ c.if-not-is_place.true in
+    let no = sym c.is_place.ensures ∙ c.if-not-is_place.true in
     rw (c.unplaced-then-not-is_place.ensures, other_place _ _ _ _ mode (omega (arith, c.if-mode-lt-PLAIN.false)) (omega (arith, c.if-mode-gt-PAE.false)) _ _ place no)
 
 pub returns-in-Refused : goal.returns-in-Refused
@@ -36,5 +34,5 @@ pub returns-else-not-is_place : goal.returns-else-not-is_place
 returns-else-not-is_place c =
     let mode = value_got _ _ _ _ c.read_field.ensures c.in-Value.is in
     let place = value_got _ _ _ _ c.read_field-in-Value.ensures c.in-Value-read_field.is in
-    let yes = sym c.is_place.ensures ∙ not-false _ c.if-not-is_place.false in
+    let yes = sym c.is_place.ensures ∙ c.if-not-is_place.false in
     rw (c.paging_mode.ensures, mode_read_lem _ _ _ _ mode (omega (arith, c.if-mode-lt-PLAIN.false)) (omega (arith, c.if-mode-gt-PAE.false)) _ _ place yes)

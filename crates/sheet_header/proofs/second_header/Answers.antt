@@ -1,7 +1,6 @@
 -- Each return cites the law for how far the reading came.
 use mathlib.Core.Path.{◌≡◌}
 use native.Mathlib.Omega.{arith}
-use borrow.Author.Rules.{rules}
 use Rattle.varint.proofs.Fields.{value_got, refused_bad}
 use Rattle.sheet.proofs.Modes.{mode_got, mode_bad}
 use Rattle.sheet.proofs.HeaderFields.{second_known, second_mode, other_edition, no_directory, no_mode, no_count, all_fields}

@@ -1,6 +1,5 @@
 -- Three stores, one after the other.
 use Rattle.sheet.proofs.ManyRuns.{row_stored}
-use borrow.Author.Rules.{rules}
 use Rattle.sheet_runs.proofs.put_row.Goals as goal
 
 pub returns : goal.returns

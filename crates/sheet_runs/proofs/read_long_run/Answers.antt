@@ -1,15 +1,13 @@
 -- Both numbers, then the run of them.
 use Rattle.varint.proofs.Fields.{value_got, refused_bad, field_below}
 use Rattle.sheet.proofs.OneRun.{no_gap, no_pages, by_numbers}
-use borrow.Author.Rules.{rules}
 use Rattle.sheet_runs.proofs.read_long_run.Goals as goal
 
 pub run_of-requires : goal.run_of-requires
-run_of-requires c =
-    (
-      field_below _ _ _ _ (value_got _ _ _ _ c.read_field.ensures c.in-Value.is),
-      (field_below _ _ _ _ (value_got _ _ _ _ c.read_field-in-Value.ensures c.in-Value-read_field.is), c.requires),
-    )
+run_of-requires c = (
+  field_below _ _ _ _ (value_got _ _ _ _ c.read_field.ensures c.in-Value.is),
+  (field_below _ _ _ _ (value_got _ _ _ _ c.read_field-in-Value.ensures c.in-Value-read_field.is), c.requires),
+)
 
 pub returns-in-Refused : goal.returns-in-Refused
 returns-in-Refused c = rw (no_gap _ _ _ _ _ (refused_bad _ _ _ c.read_field.ensures c.in-Refused.is))

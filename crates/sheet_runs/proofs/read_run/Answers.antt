@@ -4,7 +4,6 @@ use native.Mathlib.Omega.{arith}
 use Rattle.varint.proofs.Fields.{value_got, one_group, field_below}
 use Rattle.varint.proofs.Short.{short_got}
 use Rattle.sheet.proofs.OneRun.{by_numbers}
-use borrow.Author.Rules.{rules}
 use Rattle.sheet_runs.proofs.read_run.Goals as goal
 
 pub run_of-requires : goal.run_of-requires

@@ -1,8 +1,7 @@
 -- The rows so far and the runs still to read are the whole; a refused run leaves the numbers free.
-use Prim.Native.Nat.{◌-◌}
 use native.Mathlib.Omega.{arith}
 use Rattle.sheet.proofs.OneRun.{follows, taken_got, refused_bad}
-use Rattle.sheet.proofs.ManyRuns.{Reading, starts, stopped, row_fits, again, ended}
+use Rattle.sheet.proofs.ManyRuns.{starts, stopped, row_fits, again, ended}
 use borrow.Author.Rules.{rules}
 use Rattle.sheet_runs.proofs.read_runs.Goals as goal
 
