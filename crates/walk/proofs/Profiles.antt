@@ -1,9 +1,8 @@
 -- Whole walks of the 32-bit profiles: document 000's translation, and inputs at which wrong walks would answer otherwise.
-use mathlib.Core.Path.{◌≡◌, refl}
+use mathlib.Core.Path.{refl}
 use mathlib.Core.List.{List, [], ◌∷◌, ◌++◌}
 use Prim.Native.Nat.{ℕ, ◌+◌, ◌*◌, ◌/◌, ◌%◌, ◌^◌}
 use lib.ListN.{length, replicate}
-use Rattle.base.specs.Notation.{if◌then◌else◌}
 use Rattle.base.specs.Example.{Example, same, Hold}
 use Rattle.entry.specs.Pages.{frame}
 use Rattle.entry.specs.Addresses.{reachable_in}
