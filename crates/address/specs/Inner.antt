@@ -1,6 +1,5 @@
 -- The page of an address, by the answer for it.
-use Rattle.std.specs.Prelude.{◌*◌, ◌/◌, eqb}
-use Rattle.base.specs.Notation.{if◌then◌else◌}
+use Rattle.std.specs.Prelude.{◌*◌, ◌/◌, eqb, if◌then◌else◌}
 use Rattle.case.specs.declared.Answer.{Answer}
 use Rattle.address.specs.Page.{no_part}
 use Rattle.address.specs.declared.Part.{Part}

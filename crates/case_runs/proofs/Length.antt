@@ -1,4 +1,5 @@
 -- The length that a sheet asks of its image, step by step; and how it goes with the check of a case.
+use Rattle.std.specs.Prelude.{if◌then◌else◌}
 use mathlib.Core.Path.{◌≡◌, refl, sym, ap, ◌∙◌}
 use mathlib.Core.Logic.{◌⊎◌, inl, inr}
 use mathlib.Core.List.{List}
@@ -7,7 +8,6 @@ use Prim.Native.Nat.{ℕ, ◌*◌, ◌%◌, ◌≤◌}
 use native.Mathlib.Omega.{arith}
 use lib.Dec.{eqb}
 use borrow.Author.Tests.{eqb-false}
-use Rattle.base.specs.Notation.{if◌then◌else◌}
 use Rattle.base.specs.Refusal.{refusal_number}
 use Rattle.base.specs.Written.{fault_written}
 use Rattle.base.specs.declared.Fault.{Fault}

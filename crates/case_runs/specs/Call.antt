@@ -1,7 +1,6 @@
 -- What the calls on a case's sheet hand back. They are our own, beside those of 01.
-use Rattle.std.specs.Prelude.{ℕ, ◌+◌, ◌*◌, List, [], ◌∷◌, ltb, length}
+use Rattle.std.specs.Prelude.{ℕ, ◌+◌, ◌*◌, List, [], ◌∷◌, ltb, length, if◌then◌else◌}
 use Rattle.std.proofs.lemmas.List.Edits.{sets}
-use Rattle.base.specs.Notation.{if◌then◌else◌}
 use Rattle.base.specs.Refusal.{refusal_number, shown_position}
 use Rattle.base.specs.declared.Fault.{Fault}
 use Rattle.base.specs.declared.Refusal.{Refusal}

@@ -5,7 +5,8 @@ use Prim.Native.Nat.{ℕ, zero, suc, ◌+◌, ◌-◌, ◌^◌, ◌<◌}
 use native.Mathlib.Omega.{arith}
 use lib.Dec.{eqb, ltb}
 use borrow.Author.Tests.{lt-ltb, eqb-true, eqb-false}
-use Rattle.base.specs.Notation.{if◌then◌else◌, bits, bit}
+use Rattle.std.specs.Prelude.{if◌then◌else◌}
+use Rattle.base.specs.Notation.{bits, bit}
 use Rattle.base.specs.Refusal.{refusal_number}
 use Rattle.base.specs.Codes.{is_code}
 use Rattle.base.specs.declared.Refusal.TheVariants.{FrameTooWide, FileBacked, OtherPagefile, PageInStore, UpperEntryNotValid, StateNotFollowed}

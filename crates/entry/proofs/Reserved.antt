@@ -4,7 +4,8 @@ use mathlib.Core.Bool.{Bool, true, false, not, ◌&&◌}
 use Prim.Native.Nat.{ℕ}
 use native.Mathlib.Omega.{arith}
 use borrow.Author.Tests.{eq-eqb}
-use Rattle.base.specs.Notation.{if◌then◌else◌, bits, bit}
+use Rattle.std.specs.Prelude.{if◌then◌else◌}
+use Rattle.base.specs.Notation.{bits, bit}
 use Rattle.base.specs.declared.Refusal.TheVariants.{UpperEntryNotValid, FrameTooWide}
 use Rattle.entry.specs.Entry.{row, valid, too_wide, frame_of, large_of, has_reserved, reserved_of, upper_of}
 use Rattle.entry.specs.declared.ReservedBits.{ReservedBits}

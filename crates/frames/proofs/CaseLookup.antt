@@ -1,4 +1,5 @@
 -- For an accepted case the code's lookup of a frame is the paper's, and a page that it gives lies in the image.
+use Rattle.std.specs.Prelude.{if◌then◌else◌}
 use mathlib.Core.Path.{◌≡◌, refl, ap, ◌∙◌}
 use mathlib.Core.List.{List, [], ◌∷◌}
 use mathlib.Core.Bool.{Bool, true, false, ◌&&◌}
@@ -7,7 +8,6 @@ use native.Mathlib.Omega.{arith}
 use lib.Dec.{ltb, leb}
 use lib.ListN.{length}
 use borrow.Author.Tests.{lt-ltb, leb-true, ltb-true}
-use Rattle.base.specs.Notation.{if◌then◌else◌}
 use Rattle.base.proofs.Test.{both_true}
 use Rattle.entry.specs.declared.Frame.{Frame}
 use Rattle.sheet.specs.Sheet.{Sheet, end_of, run_pages}

@@ -1,11 +1,11 @@
 -- What the guard lets through.
+use Rattle.std.specs.Prelude.{if◌then◌else◌}
 use mathlib.Core.Path.{◌≡◌, refl, sym, ◌∙◌}
 use mathlib.Core.Bool.{Bool, true, false}
 use Prim.Native.Nat.{ℕ, ◌/◌, ◌<◌}
 use native.Mathlib.Omega.{arith}
 use lib.Dec.{ltb}
 use borrow.Author.Tests.{ltb-true}
-use Rattle.base.specs.Notation.{if◌then◌else◌}
 use Rattle.frames.specs.Rows.{guarded}
 use Rattle.frames.specs.declared.ImagePage.{ImagePage}
 use Rattle.frames.specs.declared.ImagePage.TheVariants.{Page, Absent}

@@ -1,4 +1,5 @@
 -- The search by halving: what a look leaves, and how many looks it takes.
+use Rattle.std.specs.Prelude.{if◌then◌else◌}
 use mathlib.Core.Path.{◌≡◌, refl, sym, ap, ◌∙◌}
 use mathlib.Core.List.{List}
 use mathlib.Core.Bool.{Bool, true, false}
@@ -8,7 +9,6 @@ use native.Mathlib.Numerals.{unary_clauses}
 use lib.Dec.{ltb}
 use lib.ListN.{length, get_or}
 use borrow.Author.Tests.{lt-ltb, le-ltb}
-use Rattle.base.specs.Notation.{if◌then◌else◌}
 use Rattle.entry.specs.Pages.{frame}
 use Rattle.entry.specs.declared.Frame.{Frame}
 use Rattle.frames.specs.Search.{first_at, end_at, skipped_at, searched, after, behind, search_in, search_from, search_of, halvings_in, halvings}

@@ -1,6 +1,5 @@
 -- The code's lookup of a frame: by the rows, in an image of a given length.
-use Rattle.std.specs.Prelude.{ℕ, ◌/◌, List, ltb}
-use Rattle.base.specs.Notation.{if◌then◌else◌}
+use Rattle.std.specs.Prelude.{ℕ, ◌/◌, List, ltb, if◌then◌else◌}
 use Rattle.entry.specs.declared.Frame.{Frame}
 use Rattle.frames.specs.Search.{search_of}
 use Rattle.frames.specs.declared.ImagePage.{ImagePage}

@@ -1,6 +1,5 @@
 -- 01 "Case sheet": where a frame lies in the image, by the runs.
-use Rattle.std.specs.Prelude.{ℕ, ◌+◌, ◌-◌, ◌&&◌, List, [], ◌∷◌, ltb, leb}
-use Rattle.base.specs.Notation.{if◌then◌else◌}
+use Rattle.std.specs.Prelude.{ℕ, ◌+◌, ◌-◌, ◌&&◌, List, [], ◌∷◌, ltb, leb, if◌then◌else◌}
 use Rattle.entry.specs.declared.Frame.{Frame}
 use Rattle.sheet.specs.Sheet.{end_of}
 use Rattle.sheet.specs.declared.Run.{Run}

@@ -1,6 +1,5 @@
 -- 02 order 2: the search of a frame in the rows by halving, and how many runs it looks at.
-use Rattle.std.specs.Prelude.{ℕ, zero, suc, ◌+◌, ◌-◌, ◌*◌, ◌/◌, List, ltb, length, get_or}
-use Rattle.base.specs.Notation.{if◌then◌else◌}
+use Rattle.std.specs.Prelude.{ℕ, zero, suc, ◌+◌, ◌-◌, ◌*◌, ◌/◌, List, ltb, length, get_or, if◌then◌else◌}
 use Rattle.entry.specs.declared.Frame.{Frame}
 use Rattle.frames.specs.declared.ImagePage.{ImagePage}
 use Rattle.frames.specs.declared.ImagePage.TheVariants.{Page, Absent}

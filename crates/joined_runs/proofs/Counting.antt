@@ -1,4 +1,5 @@
 -- Judging and counting the given runs by a loop: what was joined so far, before the runs still to come, is the whole.
+use Rattle.std.specs.Prelude.{if◌then◌else◌}
 use mathlib.Core.Path.{◌≡◌, sym, ap, ◌∙◌}
 use mathlib.Core.Bool.{Bool, true, false}
 use mathlib.Core.List.{List, [], ◌∷◌}
@@ -6,7 +7,6 @@ use Prim.Native.Nat.{ℕ, ◌+◌, ◌^◌, ◌<◌, ◌≤◌}
 use native.Mathlib.Omega.{arith}
 use lib.ListN.{length, drop}
 use borrow.Author.Tests.{lt-ltb, le-ltb}
-use Rattle.base.specs.Notation.{if◌then◌else◌}
 use Rattle.base.specs.declared.Refusal.TheVariants.{BadRun}
 use Rattle.sheet.specs.Sheet.{end_of}
 use Rattle.sheet.specs.declared.Run.{Run}

@@ -1,4 +1,5 @@
 -- Runs joined one by one: what the next run makes of the last of them, and what holds of the joined runs.
+use Rattle.std.specs.Prelude.{if◌then◌else◌}
 use mathlib.Core.Path.{◌≡◌, refl, ap, ◌∙◌}
 use mathlib.Core.Bool.{Bool, true, false}
 use mathlib.Core.List.{List, [], ◌∷◌, ◌++◌}
@@ -7,7 +8,6 @@ use native.Mathlib.Omega.{arith}
 use lib.Dec.{ltb, leb}
 use lib.ListN.{length}
 use borrow.Author.Tests.{eqb-true, eqb-false, ltb-true, leb-true, lt-ltb, le-leb, ne_eqb}
-use Rattle.base.specs.Notation.{if◌then◌else◌}
 use Rattle.base.proofs.Test.{both_true}
 use Rattle.sheet.specs.Sheet.{end_of}
 use Rattle.sheet.specs.declared.Run.{Run}

@@ -1,6 +1,5 @@
 -- What judging and joining the given runs answers.
-use Rattle.std.specs.Prelude.{ℕ, List, length, get_or}
-use Rattle.base.specs.Notation.{if◌then◌else◌}
+use Rattle.std.specs.Prelude.{ℕ, List, length, get_or, if◌then◌else◌}
 use Rattle.base.specs.declared.Refusal.TheVariants.{BadRun}
 use Rattle.entry.specs.Pages.{frame}
 use Rattle.sheet.specs.declared.Run.{Run}

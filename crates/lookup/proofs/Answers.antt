@@ -1,4 +1,5 @@
 -- What the lookup hands back keeps its promise: a page in the range is a page of an extent.
+use Rattle.std.specs.Prelude.{if◌then◌else◌}
 use mathlib.Core.Path.{◌≡◌, refl}
 use mathlib.Core.Logic.{◌⊎◌, inl, inr}
 use mathlib.Core.List.{List}
@@ -7,7 +8,6 @@ use Prim.Native.Nat.{ℕ, ◌+◌, ◌-◌, ◌<◌, ◌≤◌}
 use native.Mathlib.Omega.{arith}
 use lib.Dec.{leb, ltb}
 use borrow.Author.Tests.{leb-true, ltb-true}
-use Rattle.base.specs.Notation.{if◌then◌else◌}
 use Rattle.base.specs.Codes.{is_code}
 use Rattle.base.specs.declared.Refusal.TheVariants.{NotCanonical, OutsideMap}
 use Rattle.base.proofs.Numbers.{ten_or_more}

@@ -1,6 +1,5 @@
 -- 01 "Maps", lookup: what the call hands back. The map's own faults, then 20, then 41.
-use Rattle.std.specs.Prelude.{ℕ, ◌+◌, ◌-◌, ◌*◌, ◌%◌, ◌≤◌, ◌≡◌, ◌⊎◌, Bool, true, not, ◌&&◌, List, ltb, leb}
-use Rattle.base.specs.Notation.{if◌then◌else◌}
+use Rattle.std.specs.Prelude.{ℕ, ◌+◌, ◌-◌, ◌*◌, ◌%◌, ◌≤◌, ◌≡◌, ◌⊎◌, Bool, true, not, ◌&&◌, List, ltb, leb, if◌then◌else◌}
 use Rattle.base.specs.Refusal.{refusal_number, shown_position}
 use Rattle.base.specs.Codes.{is_code}
 use Rattle.base.specs.declared.Fault.{Fault}

@@ -1,6 +1,5 @@
 -- What the inner functions of the lookup answer.
-use Rattle.std.specs.Prelude.{ℕ, ◌-◌, ◌^◌, ◌<◌, not, ◌&&◌, List, ltb, leb, eqb, length}
-use Rattle.base.specs.Notation.{if◌then◌else◌}
+use Rattle.std.specs.Prelude.{ℕ, ◌-◌, ◌^◌, ◌<◌, not, ◌&&◌, List, ltb, leb, eqb, length, if◌then◌else◌}
 use Rattle.base.specs.Refusal.{unplaced}
 use Rattle.base.specs.declared.Refusal.TheVariants.{TrailingBytes, NotCanonical, OutsideMap}
 use Rattle.varint.specs.Reader.{Read, got, refused}

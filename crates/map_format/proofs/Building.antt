@@ -1,4 +1,5 @@
 -- A builder that takes pages one by one writes the extents of the pages.
+use Rattle.std.specs.Prelude.{if◌then◌else◌}
 use mathlib.Core.Path.{◌≡◌, refl, sym, ap, ◌∙◌}
 use mathlib.Core.List.{List, [], ◌∷◌, ◌++◌, append_assoc, append-nil}
 use mathlib.Core.Bool.{Bool, true, false}
@@ -8,7 +9,6 @@ use lib.Dec.{eqb}
 use lib.ListN.{length, length-append}
 use lib.Seq.{sets}
 use borrow.Author.Tests.{ne_eqb}
-use Rattle.base.specs.Notation.{if◌then◌else◌}
 use Rattle.base.specs.Overlay.{Wrote}
 use Rattle.base.proofs.Overlay.{sets_append, wrote_then}
 use Rattle.varint.specs.Groups.{encode}

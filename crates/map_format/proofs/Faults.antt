@@ -1,4 +1,5 @@
 -- A map refused by 11 or 18 at a position: the number that begins there is refused so, and every number before it was read.
+use Rattle.std.specs.Prelude.{if◌then◌else◌}
 use mathlib.Core.Path.{◌≡◌}
 use mathlib.Core.Bool.{Bool, true, false}
 use mathlib.Core.List.{List, [], ◌∷◌}
@@ -6,7 +7,6 @@ use Prim.Native.Nat.{ℕ, zero, suc, ◌-◌}
 use native.Mathlib.Omega.{arith}
 use lib.Dec.{eqb}
 use lib.ListN.{length}
-use Rattle.base.specs.Notation.{if◌then◌else◌}
 use Rattle.base.specs.Codes.{is_code}
 use Rattle.base.specs.declared.Fault.{Fault}
 use Rattle.base.specs.declared.Refusal.TheVariants.{OutOfLimits, BadExtent, TrailingBytes}

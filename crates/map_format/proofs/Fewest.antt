@@ -1,4 +1,5 @@
 -- No list of extents that answers as the pages do is shorter than theirs.
+use Rattle.std.specs.Prelude.{if◌then◌else◌}
 use mathlib.Core.Path.{◌≡◌, refl, sym, ap, ◌∙◌}
 use mathlib.Core.List.{List, [], ◌∷◌}
 use mathlib.Core.Bool.{Bool, true, false}
@@ -6,7 +7,6 @@ use Prim.Native.Nat.{ℕ, zero, suc, ◌+◌, ◌-◌, ◌<◌, ◌≤◌}
 use native.Mathlib.Omega.{arith}
 use lib.ListN.{length, length-append}
 use borrow.Author.Tests.{lt-ltb, le-ltb}
-use Rattle.base.specs.Notation.{if◌then◌else◌}
 use Rattle.base.proofs.Test.{Test, test, below, above}
 use Rattle.map_format.specs.Extents.{mapped_page, has_file_page, page_after, extent, joins, joined, extents_of, page_at, extent_pages, Lengths}
 use Rattle.map_format.specs.declared.Extent.{Extent}

@@ -1,4 +1,5 @@
 -- Reading one extent, test by test; and what an extent that was read keeps to.
+use Rattle.std.specs.Prelude.{if◌then◌else◌}
 use mathlib.Core.Path.{◌≡◌, refl, sym, ap, ◌∙◌}
 use mathlib.Core.List.{List}
 use mathlib.Core.Bool.{Bool, true, false, not, ◌||◌}
@@ -6,7 +7,6 @@ use Prim.Native.Nat.{ℕ, ◌+◌, ◌^◌, ◌<◌, ◌≤◌}
 use native.Mathlib.Omega.{arith}
 use lib.Dec.{ltb, leb}
 use borrow.Author.Tests.{leb-true, ltb-true}
-use Rattle.base.specs.Notation.{if◌then◌else◌}
 use Rattle.base.specs.Codes.{is_code}
 use Rattle.base.specs.Refusal.{unplaced}
 use Rattle.base.specs.declared.Fault.{Fault}

@@ -1,4 +1,5 @@
 -- The extents of a list of pages say what the pages say.
+use Rattle.std.specs.Prelude.{if◌then◌else◌}
 use mathlib.Core.Path.{◌≡◌, refl, sym, ap, ◌∙◌}
 use mathlib.Core.List.{List, [], ◌∷◌, ◌++◌, append_assoc}
 use mathlib.Core.Bool.{Bool, true, false}
@@ -9,7 +10,6 @@ use lib.Dec.{eqb}
 use lib.ListN.{length, get_or}
 use lib.Seq.{get_or-append-add}
 use borrow.Author.Tests.{eq-eqb, eqb-true, lt-ltb, le-ltb}
-use Rattle.base.specs.Notation.{if◌then◌else◌}
 use Rattle.base.proofs.Test.{Test, test, below, above, both_true}
 use Rattle.map_format.specs.Extents.{mapped_page, has_file_page, page_after, extent, joins, joined, extents_of, page_at, extent_pages}
 use Rattle.map_format.specs.declared.Extent.{Extent}

@@ -1,7 +1,6 @@
 -- 01 "Maps": the builder takes one page at a time and hands itself back.
-use Rattle.std.specs.Prelude.{◌≡◌, Bool, false, List, [], ◌∷◌, ◌++◌, ℕ, ◌+◌, ◌*◌, ◌^◌, ◌<◌, eqb, length}
+use Rattle.std.specs.Prelude.{◌≡◌, Bool, false, List, [], ◌∷◌, ◌++◌, ℕ, ◌+◌, ◌*◌, ◌^◌, ◌<◌, eqb, length, if◌then◌else◌}
 use Rattle.std.proofs.lemmas.List.Edits.{sets}
-use Rattle.base.specs.Notation.{if◌then◌else◌}
 use Rattle.map_format.specs.Extents.{extent, joins}
 use Rattle.map_format.specs.Layout.{extent_bytes}
 use Rattle.map_format.specs.declared.Builder.{Builder}

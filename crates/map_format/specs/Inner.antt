@@ -1,6 +1,5 @@
 -- What the inner functions of the reader answer, and what they ask of extents.
-use Rattle.std.specs.Prelude.{◌≡◌, false, ℕ, ◌^◌, ◌<◌}
-use Rattle.base.specs.Notation.{if◌then◌else◌}
+use Rattle.std.specs.Prelude.{◌≡◌, false, ℕ, ◌^◌, ◌<◌, if◌then◌else◌}
 use Rattle.base.specs.Refusal.{unplaced}
 use Rattle.base.specs.declared.Refusal.TheVariants.{OutOfLimits, BadExtent}
 use Rattle.varint.specs.Reader.{Read, got, refused}

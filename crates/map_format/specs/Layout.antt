@@ -1,6 +1,5 @@
 -- 01 "Maps": the layout in seven-bit groups.
-use Rattle.std.specs.Prelude.{ℕ, List, [], ◌∷◌, ◌++◌}
-use Rattle.base.specs.Notation.{if◌then◌else◌}
+use Rattle.std.specs.Prelude.{ℕ, List, [], ◌∷◌, ◌++◌, if◌then◌else◌}
 use Rattle.varint.specs.Groups.{encode}
 use Rattle.map_format.specs.Extents.{has_file_page}
 use Rattle.map_format.specs.declared.Extent.{Extent}

@@ -1,6 +1,6 @@
 -- 01 "Maps": reading a map from left to right, where the first fault wins.
-use Rattle.std.specs.Prelude.{ℕ, zero, suc, ◌+◌, ◌-◌, ◌^◌, Bool, not, ◌&&◌, ◌||◌, List, [], ◌∷◌, ltb, leb, eqb}
-use Rattle.base.specs.Notation.{if◌then◌else◌, within}
+use Rattle.std.specs.Prelude.{ℕ, zero, suc, ◌+◌, ◌-◌, ◌^◌, Bool, not, ◌&&◌, ◌||◌, List, [], ◌∷◌, ltb, leb, eqb, if◌then◌else◌}
+use Rattle.base.specs.Notation.{within}
 use Rattle.base.specs.Codes.{is_code}
 use Rattle.base.specs.declared.Refusal.TheVariants.{OutOfLimits, BadExtent}
 use Rattle.varint.specs.Reader.{Reader, ◌>>=◌, ◌>>◌, return, need, ended}

@@ -1,6 +1,5 @@
 -- What the map call hands back, and its promise.
-use Rattle.std.specs.Prelude.{ℕ, ◌≡◌, true, List, ltb, length}
-use Rattle.base.specs.Notation.{if◌then◌else◌}
+use Rattle.std.specs.Prelude.{ℕ, ◌≡◌, true, List, ltb, length, if◌then◌else◌}
 use Rattle.base.specs.Written.{WriteOutcome, unwritten, fault_outcome, written}
 use Rattle.base.specs.declared.Refusal.TheVariants.{BadMapRange, MapBufferShort}
 use Rattle.base.specs.declared.Written.{Written}

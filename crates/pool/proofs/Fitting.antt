@@ -7,7 +7,8 @@ use native.Mathlib.Omega.{arith}
 use lib.Dec.{leb, eqb}
 use lib.ListN.{length}
 use borrow.Author.Tests.{eqb-true, eqb-false, lt-ltb, le-ltb, le-leb, lt-leb, eq-eqb, ne_eqb}
-use Rattle.base.specs.Notation.{if◌then◌else◌, bits}
+use Rattle.std.specs.Prelude.{if◌then◌else◌}
+use Rattle.base.specs.Notation.{bits}
 use Rattle.words.specs.Words.{word_at}
 use Rattle.pool.specs.Pool.{previous_size, block_size, block_end, tag, tag_fits, is_header}
 use Rattle.pool.specs.Call.{WordsInside}

@@ -1,4 +1,5 @@
 -- What the list means: an offset is in it exactly if it holds a header, and it ascends; and the call's answers.
+use Rattle.std.specs.Prelude.{if◌then◌else◌}
 use mathlib.Core.Path.{◌≡◌, refl, sym, ◌∙◌}
 use mathlib.Core.Bool.{Bool, true, false}
 use mathlib.Core.List.{List, [], ◌∷◌, ◌++◌}
@@ -8,7 +9,6 @@ use lib.Dec.{leb}
 use lib.ListN.{length, take, drop}
 use lib.Seq.{sets, sets-eq, take_at}
 use borrow.Author.Tests.{leb-true, leb-false, lt-ltb, le-ltb, le-leb, eq-eqb, ne_eqb}
-use Rattle.base.specs.Notation.{if◌then◌else◌}
 use Rattle.base.specs.Codes.{member}
 use Rattle.base.specs.Overlay.{Wrote}
 use Rattle.base.specs.Written.{not_written}

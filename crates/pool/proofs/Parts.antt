@@ -8,7 +8,8 @@ use lib.Dec.{ltb, leb, eqb}
 use lib.ListN.{length, drop, length-append, length-drop}
 use lib.Seq.{take-append-le, drop-append-le, drop-append-add}
 use borrow.Author.Tests.{leb-true, leb-false, eqb-true, lt-ltb, le-ltb}
-use Rattle.base.specs.Notation.{if◌then◌else◌, bits}
+use Rattle.std.specs.Prelude.{if◌then◌else◌}
+use Rattle.base.specs.Notation.{bits}
 use Rattle.base.proofs.Test.{Test, test, below, above}
 use Rattle.words.specs.Words.{word_at, little_at}
 use Rattle.pool.specs.Pool.{previous_size, block_size, block_end, is_header, headers_from, headers_of}

@@ -1,6 +1,5 @@
 -- What the call hands back, and what that means.
-use Rattle.std.specs.Prelude.{ℕ, ◌+◌, ◌-◌, ◌*◌, ◌%◌, ◌≤◌, ◌<◌, ◌≡◌, List, [], ◌∷◌, ltb, eqb, length, take}
-use Rattle.base.specs.Notation.{if◌then◌else◌}
+use Rattle.std.specs.Prelude.{ℕ, ◌+◌, ◌-◌, ◌*◌, ◌%◌, ◌≤◌, ◌<◌, ◌≡◌, List, [], ◌∷◌, ltb, eqb, length, take, if◌then◌else◌}
 use Rattle.base.specs.Codes.{member}
 use Rattle.base.specs.Written.{WriteOutcome, unwritten, written}
 use Rattle.base.specs.declared.Refusal.TheVariants.{ImageNotWholePages, PoolBufferShort}

@@ -1,6 +1,6 @@
 -- 02, order 1: the pool headers of 32-bit Windows XP and later (document 001, section 2.3 and figure 1, the lower layout).
-use Rattle.std.specs.Prelude.{ℕ, zero, suc, ◌+◌, ◌-◌, ◌*◌, ◌%◌, Bool, not, ◌&&◌, ◌||◌, List, [], ◌∷◌, ltb, leb, eqb, length}
-use Rattle.base.specs.Notation.{if◌then◌else◌, bits, bit}
+use Rattle.std.specs.Prelude.{ℕ, zero, suc, ◌+◌, ◌-◌, ◌*◌, ◌%◌, Bool, not, ◌&&◌, ◌||◌, List, [], ◌∷◌, ltb, leb, eqb, length, if◌then◌else◌}
+use Rattle.base.specs.Notation.{bits, bit}
 use Rattle.words.specs.Words.{word_at}
 
 -- ---- a header

@@ -1,7 +1,6 @@
 -- What a pass over the links leaves.
-use Rattle.std.specs.Prelude.{ℕ, ◌≡◌, List, length, eqb}
+use Rattle.std.specs.Prelude.{ℕ, ◌≡◌, List, length, eqb, if◌then◌else◌}
 use Rattle.std.proofs.lemmas.List.Edits.{sets}
-use Rattle.base.specs.Notation.{if◌then◌else◌}
 use Rattle.base.specs.declared.Refusal.TheVariants.{TooManyProcesses}
 use Rattle.process_list.specs.declared.Linked.{Linked}
 use Rattle.process_list.specs.declared.Linked.TheVariants as linked

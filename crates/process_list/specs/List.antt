@@ -1,6 +1,5 @@
 -- 01 "Processor block and process list": the process list.
-use Rattle.std.specs.Prelude.{ℕ, zero, suc, ◌+◌, ◌-◌, ◌%◌, List, [], ◌∷◌, eqb}
-use Rattle.base.specs.Notation.{if◌then◌else◌}
+use Rattle.std.specs.Prelude.{ℕ, zero, suc, ◌+◌, ◌-◌, ◌%◌, List, [], ◌∷◌, eqb, if◌then◌else◌}
 use Rattle.base.specs.declared.Refusal.{Refusal}
 use Rattle.base.specs.declared.Refusal.TheVariants.{LinkUnaligned, BackLinkDiffers, TooManyProcesses, ListBufferShort}
 use Rattle.words.specs.Words.{word_at}

@@ -1,7 +1,7 @@
 -- What the search's answer means: a block is there, or none is anywhere, from the given offset on.
+use Rattle.std.specs.Prelude.{if◌then◌else◌}
 use Rattle.std.proofs.Common.{◌≡◌, ℕ, zero, suc, ◌+◌, ◌-◌, ◌%◌, ◌<◌, ◌≤◌, Bool, true, false, length, sym, refl, ◌∙◌, arith}
 use mathlib.Core.Bool.{false≢true}
-use Rattle.base.specs.Notation.{if◌then◌else◌}
 use Rattle.base.proofs.Test.{Test, test, below, above}
 use Rattle.entry.specs.Entry.{frame_of}
 use Rattle.entry.specs.declared.Frame.{Frame}

@@ -1,6 +1,6 @@
 -- 01 "Processor block and process list": the processor block of document 003, 64-bit Windows 7, and its search.
-use Rattle.std.specs.Prelude.{ℕ, zero, suc, ◌+◌, ◌-◌, ◌%◌, Bool, false, ◌&&◌, List, length, ◌==◌, nat_le, nat_lt}
-use Rattle.base.specs.Notation.{if◌then◌else◌, bits}
+use Rattle.std.specs.Prelude.{ℕ, zero, suc, ◌+◌, ◌-◌, ◌%◌, Bool, false, ◌&&◌, List, length, ◌==◌, nat_le, nat_lt, if◌then◌else◌}
+use Rattle.base.specs.Notation.{bits}
 use Rattle.base.specs.declared.Refusal.TheVariants.{NoProcessorBlock}
 use Rattle.entry.specs.Entry.{frame_of}
 use Rattle.entry.specs.declared.Frame.{Frame}

@@ -1,6 +1,5 @@
 -- What writing a judged sheet asks, and what it leaves.
-use Rattle.std.specs.Prelude.{ℕ, ◌^◌, ◌≤◌, ◌<◌, ◌≡◌, true, List, [], length}
-use Rattle.base.specs.Notation.{if◌then◌else◌}
+use Rattle.std.specs.Prelude.{ℕ, ◌^◌, ◌≤◌, ◌<◌, ◌≡◌, true, List, [], length, if◌then◌else◌}
 use Rattle.base.specs.Overlay.{Wrote}
 use Rattle.sheet.specs.Sheet.{end_of, Sheet}
 use Rattle.sheet.specs.Inner.{PlaceInPage}

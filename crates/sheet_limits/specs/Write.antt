@@ -1,6 +1,6 @@
 -- 02 orders 4 and 7: the sheet of an address space, and of runs that are given as starts and lengths in pages.
-use Rattle.std.specs.Prelude.{ℕ, ◌+◌, ◌-◌, ◌^◌, Bool, true, ◌&&◌, List, [], ◌∷◌, ◌++◌, ltb, leb, eqb, length}
-use Rattle.base.specs.Notation.{if◌then◌else◌, within}
+use Rattle.std.specs.Prelude.{ℕ, ◌+◌, ◌-◌, ◌^◌, Bool, true, ◌&&◌, List, [], ◌∷◌, ◌++◌, ltb, leb, eqb, length, if◌then◌else◌}
+use Rattle.base.specs.Notation.{within}
 use Rattle.varint.specs.Groups.{encode}
 use Rattle.entry.specs.Pages.{frame}
 use Rattle.entry.specs.declared.PagingMode.{PagingMode}

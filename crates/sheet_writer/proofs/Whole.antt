@@ -1,4 +1,5 @@
 -- The call's promise, of any input: from the equation follow that what is written reads back, and that an accepted sheet is written again.
+use Rattle.std.specs.Prelude.{if◌then◌else◌}
 use mathlib.Core.Path.{◌≡◌, refl, sym, ap, ◌∙◌}
 use mathlib.Core.Bool.{Bool, true, false, not}
 use mathlib.Core.List.{List, [], ◌∷◌}
@@ -8,7 +9,6 @@ use lib.ListN.{length, take, drop}
 use lib.Seq.{sets, sets-eq, take_at}
 use lib.Dec.{leb}
 use borrow.Author.Tests.{lt-ltb, le-ltb, le-leb}
-use Rattle.base.specs.Notation.{if◌then◌else◌}
 use Rattle.base.specs.Refusal.{refusal_number}
 use Rattle.base.specs.Written.{WriteOutcome, unwritten, written}
 use Rattle.base.specs.declared.Refusal.{Refusal}

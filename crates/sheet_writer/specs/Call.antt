@@ -1,6 +1,5 @@
 -- What the sheet writer hands back, and its promise.
-use Rattle.std.specs.Prelude.{ℕ, ◌*◌, ◌%◌, ◌<◌, ◌≤◌, ◌≡◌, not, List, ltb, length, get_or, take}
-use Rattle.base.specs.Notation.{if◌then◌else◌}
+use Rattle.std.specs.Prelude.{ℕ, ◌*◌, ◌%◌, ◌<◌, ◌≤◌, ◌≡◌, not, List, ltb, length, get_or, take, if◌then◌else◌}
 use Rattle.base.specs.Written.{WriteOutcome, unwritten, written}
 use Rattle.base.specs.declared.Refusal.TheVariants.{OutOfLimits, BadRun, SheetBufferShort}
 use Rattle.base.specs.declared.Written.{Written}

@@ -1,6 +1,5 @@
 -- What judging answers: 12, or what counting the given runs does.
-use Rattle.std.specs.Prelude.{ℕ, not, List}
-use Rattle.base.specs.Notation.{if◌then◌else◌}
+use Rattle.std.specs.Prelude.{ℕ, not, List, if◌then◌else◌}
 use Rattle.base.specs.declared.Refusal.TheVariants.{OutOfLimits}
 use Rattle.sheet_limits.specs.Write.{in_limits, runs_of}
 use Rattle.joined_runs.specs.Inner.{counted_runs}

@@ -1,4 +1,5 @@
 -- A time below 2^63 loses nothing as two doubles.
+use Rattle.std.specs.Prelude.{if◌then◌else◌}
 use mathlib.Core.Path.{◌≡◌, refl}
 use mathlib.Core.Bool.{Bool, true, false}
 use Prim.Native.Nat.{ℕ, ◌/◌, ◌%◌, ◌^◌, ◌≤◌, ◌<◌}
@@ -8,7 +9,6 @@ use lib.IntN.{pos}
 use lib.Ieee.{in_float, of_int, binary64}
 use lib.Ieee.Back.{round_whole}
 use borrow.Author.Tests.{leb-false}
-use Rattle.base.specs.Notation.{if◌then◌else◌}
 use Rattle.base.specs.declared.Refusal.{Refusal}
 use Rattle.base.specs.declared.Refusal.TheVariants.{TimeZero, TimeTooLarge}
 use Rattle.varint.specs.Reader as reader

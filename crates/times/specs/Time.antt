@@ -1,6 +1,5 @@
 -- 02, order 13: the time in the 8 bytes at an address.
-use Rattle.std.specs.Prelude.{ℕ, ◌^◌, eqb, leb}
-use Rattle.base.specs.Notation.{if◌then◌else◌}
+use Rattle.std.specs.Prelude.{ℕ, ◌^◌, eqb, leb, if◌then◌else◌}
 use Rattle.base.specs.declared.Refusal.{Refusal}
 use Rattle.base.specs.declared.Refusal.TheVariants.{TimeZero, TimeTooLarge}
 use Rattle.words.specs.Words.{little}

@@ -1,11 +1,11 @@
 -- A number takes a byte at least.
+use Rattle.std.specs.Prelude.{if◌then◌else◌}
 use mathlib.Core.Path.{◌≡◌, refl}
 use mathlib.Core.Bool.{Bool, true, false}
 use mathlib.Core.List.{List, [], ◌∷◌}
 use Prim.Native.Nat.{ℕ, zero, suc, ◌-◌, ◌<◌}
 use native.Mathlib.Omega.{arith}
 use lib.Dec.{ltb}
-use Rattle.base.specs.Notation.{if◌then◌else◌}
 use Rattle.base.specs.Refusal.{unplaced}
 use Rattle.base.specs.declared.Refusal.TheVariants.{NumberNotShortest}
 use Rattle.varint.specs.Reader.{Read, got, refused}

@@ -1,4 +1,5 @@
 -- Reading a number of at most three groups, group by group: what ends earlier, goes on or is refused is none.
+use Rattle.std.specs.Prelude.{if◌then◌else◌}
 use mathlib.Core.Path.{◌≡◌, refl}
 use mathlib.Core.Bool.{Bool, true, false}
 use mathlib.Core.List.{List}
@@ -7,7 +8,6 @@ use native.Mathlib.Omega.{arith}
 use lib.Dec.{leb}
 use lib.ListN.{length, get_or, drop}
 use borrow.Author.Tests.{le-leb, lt-leb}
-use Rattle.base.specs.Notation.{if◌then◌else◌}
 use Rattle.base.specs.declared.Fault.{Fault}
 use Rattle.base.proofs.Test.{Test, test, below, above}
 use Rattle.varint.specs.Reader.{Read, got, refused}

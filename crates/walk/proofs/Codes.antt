@@ -1,11 +1,11 @@
 -- The number of every answer for a reachable address is a code, and a file offset is below 2^48, so that the answer can stand in a map.
+use Rattle.std.specs.Prelude.{if◌then◌else◌}
 use mathlib.Core.Path.{◌≡◌, refl}
 use mathlib.Core.Bool.{Bool, true, false}
 use Prim.Native.Nat.{ℕ, zero, suc, ◌+◌, ◌*◌, ◌%◌, ◌^◌, ◌≤◌, ◌<◌}
 use native.Mathlib.Omega.{arith}
 use lib.Dec.{eqb, leb}
 use lib.ListN.{length}
-use Rattle.base.specs.Notation.{if◌then◌else◌}
 use Rattle.base.specs.Codes.{is_code}
 use Rattle.base.specs.Refusal.{refusal_number}
 use Rattle.base.specs.declared.Refusal.TheVariants.{PrototypeUnaligned, PastPagefile}
