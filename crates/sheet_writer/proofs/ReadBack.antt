@@ -11,7 +11,7 @@ use borrow.Author.Tests.{lt-ltb, le-leb, eq-eqb, ltb-true}
 use Rattle.base.specs.declared.Refusal.TheVariants.{BadRun}
 use Rattle.base.specs.Notation.{within}
 use Rattle.base.proofs.Test.{both_true}
-use Rattle.varint.specs.Reader.{got}
+use Rattle.varint.specs.Reader.{got, ◌>>=◌, ◌>>◌, return, need}
 use Rattle.varint.specs.Groups.{encode, number}
 use Rattle.varint.proofs.Reader.{came, held, returned}
 use Rattle.varint.proofs.Forms.{Bytes, Stands}
@@ -152,11 +152,11 @@ record RunForm (s : List ℕ) (at end : ℕ) (r : Run) (next : ℕ) : Type 0 whe
 run_form : (s : List ℕ) (at least end : ℕ) (r : Run) (next : ℕ) → Bytes s → run_from least end s at ≡ got r next → RunForm s at end r next
 unfolding run_from
 run_form s at least end r next b e =
-    let c₁ = came s _ (number s at) r next e in
-    let c₂ = came s _ (number s c₁.at) r next c₁.rest in
-    let t₁ = held s _ (leb least c₁.value) BadRun c₂.at r next c₂.rest in
-    let t₂ = held s _ (ltb 0 c₂.value) BadRun c₂.at r next t₁.1 in
-    let t₃ = held s _ (leb (end + c₁.value + c₂.value) (2 ^ 36)) BadRun c₂.at r next t₂.1 in
+    let c₁ = came s (λ gap. ◌>>=◌ number (λ pages. ◌>>◌ (need (leb least gap) BadRun) (◌>>◌ (need (ltb 0 pages) BadRun) (◌>>◌ (need (leb (end + gap + pages) (2 ^ 36)) BadRun) (return (record { first = frame (end + gap); pages = pages })))))) (number s at) r next e in
+    let c₂ = came s (λ pages. ◌>>◌ (need (leb least c₁.value) BadRun) (◌>>◌ (need (ltb 0 pages) BadRun) (◌>>◌ (need (leb (end + c₁.value + pages) (2 ^ 36)) BadRun) (return (record { first = frame (end + c₁.value); pages = pages }))))) (number s c₁.at) r next c₁.rest in
+    let t₁ = held s (λ _. ◌>>◌ (need (ltb 0 c₂.value) BadRun) (◌>>◌ (need (leb (end + c₁.value + c₂.value) (2 ^ 36)) BadRun) (return (record { first = frame (end + c₁.value); pages = c₂.value })))) (leb least c₁.value) BadRun c₂.at r next c₂.rest in
+    let t₂ = held s (λ _. ◌>>◌ (need (leb (end + c₁.value + c₂.value) (2 ^ 36)) BadRun) (return (record { first = frame (end + c₁.value); pages = c₂.value }))) (ltb 0 c₂.value) BadRun c₂.at r next t₁.1 in
+    let t₃ = held s (λ _. return (record { first = frame (end + c₁.value); pages = c₂.value })) (leb (end + c₁.value + c₂.value) (2 ^ 36)) BadRun c₂.at r next t₂.1 in
     let same = returned (record { first = frame (end + c₁.value); pages = c₂.value }) r c₂.at next t₃.1 in
     let n₁ = field_stands s at c₁.value c₁.at b c₁.field in
     let n₂ = field_stands s c₁.at c₂.value c₂.at b c₂.field in
@@ -183,9 +183,9 @@ runs_form zero s at least end rs next b e =
     let own : RunsForm s at end [] at = record { bytes = refl; lengths = refl } in
     subst (λ (k : ℕ). RunsForm s at end rs k) same.1 (rw same.0 at own)
 runs_form (suc n) s at least end rs next b e =
-    let c₁ = came s _ (run_from least end s at) rs next e in
+    let c₁ = came s (λ r. ◌>>=◌ (runs_from n 1 (end_of r)) (λ more. return (r ∷ more))) (run_from least end s at) rs next e in
     let r = c₁.value in
-    let c₂ = came s _ (runs_from n 1 (end_of r) s c₁.at) rs next c₁.rest in
+    let c₂ = came s (λ more. return (r ∷ more)) (runs_from n 1 (end_of r) s c₁.at) rs next c₁.rest in
     let same = returned (r ∷ c₂.value) rs c₂.at next c₂.rest in
     let own : RunsForm s at end (r ∷ c₂.value) c₂.at =
     more_runs s at end r c₁.at c₂.value c₂.at (run_form s at least end r c₁.at b c₁.field) (runs_form n s c₁.at 1 (end_of r) c₂.value c₂.at b c₂.field) in
