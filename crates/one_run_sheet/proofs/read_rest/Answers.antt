@@ -1,5 +1,4 @@
 -- Two numbers, and the tests that the check of a sheet has for them.
-use borrow.Author.Rules.{rules}
 use native.Mathlib.Omega.{arith}
 use Rattle.varint.proofs.Fields.{field_below}
 use Rattle.varint.proofs.Short.{short_got}
