@@ -1,0 +1,6 @@
+-- The refusal's number, and the position that it shows.
+use borrow.Author.Rules.{rules}
+use Rattle.case_runs.proofs.fault_case.Goals as goal
+
+pub returns : goal.returns
+returns c = rw (c.number-number.ensures, c.shown_position-position.ensures)

@@ -1,0 +1,6 @@
+-- The refusal's number.
+use borrow.Author.Rules.{rules}
+use Rattle.case_runs.proofs.refuse.Goals as goal
+
+pub returns : goal.returns
+returns c = rw c.number.ensures
