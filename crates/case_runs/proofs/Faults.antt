@@ -85,6 +85,21 @@ by_own edition s at = go (eqb edition 1)
     go true = tt
     go false = mode_own s at
 
+abbrev header_with : ℕ → PagingMode → ℕ → Header
+header_with directory mode count = record { space = record { directory = frame directory; mode = mode }; count = count }
+
+abbrev after_count : ℕ → PagingMode → ℕ → Reader Header
+after_count directory mode count = ◌>>◌ (need (within 1 1000 count) OutOfLimits) (return (header_with directory mode count))
+
+abbrev after_mode : ℕ → PagingMode → Reader Header
+after_mode directory mode = ◌>>=◌ number (after_count directory mode)
+
+abbrev after_directory : ℕ → ℕ → Reader Header
+after_directory edition directory = ◌>>=◌ (mode_by edition) (after_mode directory)
+
+abbrev after_edition : ℕ → Reader Header
+after_edition edition = ◌>>◌ (need (within 1 2 edition) OutOfLimits) (◌>>=◌ number (after_directory edition))
+
 header_own : (s : List ℕ) (at : ℕ) → OwnFault (header s at)
 unfolding header
 header_own s at =
@@ -94,39 +109,24 @@ header_own s at =
     then_own s (after_mode directory) (mode_by edition s c) (by_own edition s c) (λ mode d.
     then_own s (after_count directory mode) (number s d) (number_own s d) (λ count f.
     need_own s (λ x. return (header_with directory mode count)) (within 1 1000 count) OutOfLimits f out_of_limits (λ y g. tt))))))
-  where
-    abbrev header_with : ℕ → PagingMode → ℕ → Header
-    header_with directory mode count = record { space = record { directory = frame directory; mode = mode }; count = count }
 
-    abbrev after_count : ℕ → PagingMode → ℕ → Reader Header
-    after_count directory mode count = ◌>>◌ (need (within 1 1000 count) OutOfLimits) (return (header_with directory mode count))
+abbrev at_top : ℕ → ℕ → ℕ → Reader Run
+at_top end gap pages = ◌>>◌ (need (leb (end + gap + pages) (2 ^ 36)) BadRun) (return (record { first = frame (end + gap); pages = pages }))
 
-    abbrev after_mode : ℕ → PagingMode → Reader Header
-    after_mode directory mode = ◌>>=◌ number (after_count directory mode)
+abbrev at_some : ℕ → ℕ → ℕ → Reader Run
+at_some end gap pages = ◌>>◌ (need (ltb 0 pages) BadRun) (at_top end gap pages)
 
-    abbrev after_directory : ℕ → ℕ → Reader Header
-    after_directory edition directory = ◌>>=◌ (mode_by edition) (after_mode directory)
-
-    abbrev after_edition : ℕ → Reader Header
-    after_edition edition = ◌>>◌ (need (within 1 2 edition) OutOfLimits) (◌>>=◌ number (after_directory edition))
+abbrev at_pages : ℕ → ℕ → ℕ → ℕ → Reader Run
+at_pages least end gap pages = ◌>>◌ (need (leb least gap) BadRun) (at_some end gap pages)
 
 run_own : (least end : ℕ) (s : List ℕ) (at : ℕ) → OwnFault (run_from least end s at)
 unfolding run_from
 run_own least end s at =
-    then_own s (λ gap. ◌>>=◌ number (at_pages gap)) (number s at) (number_own s at) (λ gap a.
-    then_own s (at_pages gap) (number s a) (number_own s a) (λ pages b.
-    need_own s (λ x. at_some gap pages) (leb least gap) BadRun b (inl (omega arith)) (λ x c.
-    need_own s (λ x. at_top gap pages) (ltb 0 pages) BadRun c (inl (omega arith)) (λ y d.
+    then_own s (λ gap. ◌>>=◌ number (at_pages least end gap)) (number s at) (number_own s at) (λ gap a.
+    then_own s (at_pages least end gap) (number s a) (number_own s a) (λ pages b.
+    need_own s (λ x. at_some end gap pages) (leb least gap) BadRun b (inl (omega arith)) (λ x c.
+    need_own s (λ x. at_top end gap pages) (ltb 0 pages) BadRun c (inl (omega arith)) (λ y d.
     need_own s (λ x. return (record { first = frame (end + gap); pages = pages })) (leb (end + gap + pages) (2 ^ 36)) BadRun d (inl (omega arith)) (λ z e. tt)))))
-  where
-    abbrev at_top : ℕ → ℕ → Reader Run
-    at_top gap pages = ◌>>◌ (need (leb (end + gap + pages) (2 ^ 36)) BadRun) (return (record { first = frame (end + gap); pages = pages }))
-
-    abbrev at_some : ℕ → ℕ → Reader Run
-    at_some gap pages = ◌>>◌ (need (ltb 0 pages) BadRun) (at_top gap pages)
-
-    abbrev at_pages : ℕ → ℕ → Reader Run
-    at_pages gap pages = ◌>>◌ (need (leb least gap) BadRun) (at_some gap pages)
 
 runs_own : (n least end : ℕ) (s : List ℕ) (at : ℕ) → OwnFault (runs_from n least end s at)
 unfolding runs_from

@@ -7,7 +7,6 @@ use lib.ListN.{length}
 use Rattle.sheet.specs.Sheet.{end_of}
 use Rattle.sheet.specs.Call.{rows_from}
 use Rattle.sheet.specs.declared.Run.{Run}
-use Rattle.sheet.proofs.OneRun.{Follows}
 use Rattle.sheet.proofs.AcceptedCase.{Chain}
 use Rattle.case_runs.specs.Call.{run_numbers}
 use Rattle.case_runs.specs.Inner.{RowsInOrder, runs_of_rows}

@@ -2,7 +2,6 @@
 use lib.ListN.{length-take}
 use native.Mathlib.Omega.{arith}
 use Rattle.case_runs.proofs.Answers.{refused_sheet, short_buffer, ordered, handed_back}
-use borrow.Author.Rules.{rules}
 use Rattle.case_runs.proofs.case_runs.Goals as goal
 
 pub slice_bounds-read_sheet-end-2 : goal.slice_bounds-read_sheet-end-2
@@ -10,7 +9,7 @@ slice_bounds-read_sheet-end-2 c = simp length-take (omega arith)
 
 pub returns-then-out-count : goal.returns-then-out-count
 returns-then-out-count c =
-    short_buffer _ _ _ _ _ _ c.read_sheet.ensures c.read_sheet.auto.1.1.1.0 _ c.in-Accepted.is
+    short_buffer _ _ _ _ _ _ c.read_sheet.ensures c.read_sheet.auto.rows _ c.in-Accepted.is
     (omega (arith, c.if-out-count.true)) _ c.refuse.ensures
 
 pub slice_bounds-read_sheet-end-in-Accepted-2 : goal.slice_bounds-read_sheet-end-in-Accepted-2
@@ -21,14 +20,14 @@ slice_bounds-rows_to_runs-end-in-Accepted c = simp length-take (omega (arith, c.
 
 pub rows_to_runs-requires : goal.rows_to_runs-requires
 rows_to_runs-requires c =
-    ordered _ _ _ _ _ _ c.read_sheet.ensures c.read_sheet.auto.1.1.1.0 _ c.in-Accepted.is
+    ordered _ _ _ _ _ _ c.read_sheet.ensures c.read_sheet.auto.rows _ c.in-Accepted.is
     (omega (arith, c.if-out-count.false)) _ _ c.read_sheet-in-Accepted.ensures
 
 pub returns-in-Refused : goal.returns-in-Refused
-returns-in-Refused c = refused_sheet _ _ _ _ _ _ c.read_sheet.ensures c.read_sheet.auto.1.1.1.0 _ c.in-Refused.is _ c.fault_case.ensures
+returns-in-Refused c = refused_sheet _ _ _ _ _ _ c.read_sheet.ensures c.read_sheet.auto.rows _ c.in-Refused.is _ c.fault_case.ensures
 
 pub returns-else-out-count : goal.returns-else-out-count
 returns-else-out-count c =
-    handed_back _ _ _ _ _ _ c.read_sheet.ensures c.read_sheet.auto.1.1.1.0 _ c.in-Accepted.is
+    handed_back _ _ _ _ _ _ c.read_sheet.ensures c.read_sheet.auto.rows _ c.in-Accepted.is
     (omega (arith, c.if-out-count.false)) _ _ c.read_sheet-in-Accepted.ensures
     _ c.rows_to_runs.ensures _ _ _ c.number.ensures c.mode_number-mode.ensures c.place_of-place.ensures

@@ -1,5 +1,4 @@
 -- The refusal's number, and the position that it shows.
-use borrow.Author.Rules.{rules}
 use Rattle.case_runs.proofs.fault_case.Goals as goal
 
 pub returns : goal.returns

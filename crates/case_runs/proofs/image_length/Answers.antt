@@ -2,7 +2,6 @@
 use native.Mathlib.Omega.{arith}
 use Rattle.sheet.proofs.WholeSheet.{fields_found, no_fields_found, total_pages}
 use Rattle.case_runs.proofs.Length.{no_length, asked}
-use borrow.Author.Rules.{rules}
 use Rattle.case_runs.proofs.image_length.Goals as goal
 
 pub overflow_mul-length : goal.overflow_mul-length

@@ -1,5 +1,4 @@
 -- The refusal's number.
-use borrow.Author.Rules.{rules}
 use Rattle.case_runs.proofs.refuse.Goals as goal
 
 pub returns : goal.returns

@@ -1,9 +1,7 @@
 -- Each turn makes of the row at the loop's place its run's numbers; the rows before it are done, those after it as lent.
-use Prim.Native.Nat.{◌-◌}
 use native.Mathlib.Omega.{arith}
-use lib.ListN.{length, length-set}
-use borrow.Author.Rules.{rules}
-use Rattle.case_runs.proofs.Turning.{Turning, starts, row, inside, first_read, end_read, skipped_read, turned, ended}
+use lib.ListN.{length-set}
+use Rattle.case_runs.proofs.Turning.{starts, row, inside, first_read, end_read, skipped_read, turned, ended}
 use Rattle.case_runs.proofs.rows_to_runs.Goals as goal
 
 pub loop-at-init : goal.loop-at-init

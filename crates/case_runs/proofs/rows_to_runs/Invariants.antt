@@ -1,9 +1,7 @@
 -- Each turn makes of the row at the loop's place its run's numbers; the rows before it are done, those after it as lent.
 use Prim.Native.Nat.{◌-◌}
-use native.Mathlib.Omega.{arith}
-use lib.ListN.{length, length-set}
-use borrow.Author.Rules.{rules}
-use Rattle.case_runs.proofs.Turning.{Turning, starts, row, inside, first_read, end_read, skipped_read, turned, ended}
+use lib.ListN.{length}
+use Rattle.case_runs.proofs.Turning.{Turning}
 use Rattle.case_runs.proofs.rows_to_runs.Given as goal
 
 abbrev pub invariant-loop-at : goal.invariant-loop-at
