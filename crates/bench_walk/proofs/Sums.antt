@@ -1,5 +1,5 @@
 -- The offset of a place that was found, and the sum one page further.
-use Rattle.std.proofs.Common.{◌≡◌, ℕ, zero, suc, ◌+◌, ◌-◌, ◌%◌, ◌^◌, ◌<◌, ◌≤◌, sym, refl, ap, ◌∙◌, arith}
+use Rattle.std.proofs.Common.{◌≡◌, ℕ, suc, ◌+◌, ◌-◌, ◌%◌, ◌^◌, ◌<◌, ◌≤◌, sym, ap, ◌∙◌, arith}
 use Rattle.walk.specs.Walk.{World, resolve_of}
 use Rattle.walk.specs.Rows.{resolved_of}
 use Rattle.walk.specs.declared.Place.{Place}
