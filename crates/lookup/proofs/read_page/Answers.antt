@@ -13,7 +13,7 @@ read_extent-requires c = c.loop-left.invariant.limits
 pub returns-in-Refused : goal.returns-in-Refused
 returns-in-Refused c =
     let no_extent = extent_refused _ _ _ c.read_extent.ensures c.in-Refused.is in
-    record { same = no_extent_read c.loop-left.invariant c.loop-left-test.true _ no_extent; low = tt }
+    record { same = no_extent_read c.loop-left.invariant (omega arith) _ no_extent; low = tt }
 
 pub overflow_sub-count : goal.overflow_sub-count
 overflow_sub-count c = c.loop-left.invariant.part
@@ -30,10 +30,10 @@ loop-left-smaller c = omega (arith, (extent_keeps _ _ _ _ _ _ (extent_got _ _ _ 
 pub loop-left-preserved : goal.loop-left-preserved
 loop-left-preserved c =
     let taken = extent_got _ _ _ _ c.read_extent.ensures c.in-Taken.is in
-    rw c.note-page.ensures (again c.loop-left.invariant c.loop-left-test.true _ _ taken)
+    rw c.note-page.ensures (again c.loop-left.invariant (omega arith) _ _ taken)
 
 pub returns-then-at-s : goal.returns-then-at-s
-returns-then-at-s c = record { same = rw c.unplaced.ensures (trailing c.loop-left.invariant c.loop-left-test.false c.if-at-s.true); low = tt }
+returns-then-at-s c = record { same = rw c.unplaced.ensures (trailing c.loop-left.invariant (omega arith) c.if-at-s.true); low = tt }
 
 pub returns : goal.returns
-returns c = record { same = answered c.loop-left.invariant c.loop-left-test.false c.if-at-s.false c.requires; low = c.loop-left.invariant.low }
+returns c = record { same = answered c.loop-left.invariant (omega arith) c.if-at-s.false c.requires; low = c.loop-left.invariant.low }
