@@ -1,12 +1,12 @@
--- The decimal form by two equations that bound no steps, and that it is what `io::decimal` writes.
+-- The decimal form by two equations that bound no steps, and that it is what std writes of a number.
 use mathlib.Core.Path.{◌≡◌, refl, sym, ap, ◌∙◌}
 use mathlib.Core.List.{List, [], ◌∷◌, ◌++◌}
-use Prim.Native.Nat.{ℕ, zero, suc, ◌+◌, ◌-◌, ◌*◌, ◌/◌, ◌%◌, ◌^◌, ◌<◌, ◌≤◌}
-use native.Mathlib.Nat.{pow-le-pow_right}
+use Prim.Native.Nat.{ℕ, zero, suc, ◌/◌, ◌%◌, ◌^◌, ◌<◌, ◌≤◌}
 use native.Mathlib.Omega.{arith}
 use borrow.Author.Tests.{lt-ltb, le-ltb}
 use Rattle.base.proofs.Test.{Test, test, below, above}
-use Rattle.io.specs.Digits.{last_digits, hex_digit_ascii, IsDigitCount}
+use Rattle.std.specs.Fmt.{decimal}
+use Rattle.std.proofs.lemmas.Fmt.{decimal_by_steps}
 use Rattle.address.specs.Line.{digit, decimal_steps, decimal_of}
 
 in_small : (m n : ℕ) → n < 10 → decimal_steps m n ≡ digit n ∷ []
@@ -35,24 +35,6 @@ unfolding decimal_of
 decimal_more zero h = absurd (omega arith)
 decimal_more (suc n) h = in_more n (suc n) h ∙ ap (λ (l : List ℕ). l ++ digit (suc n % 10) ∷ []) (in_enough n (suc n / 10) (suc n / 10) (omega arith) (omega arith))
 
-glyph_digit : (d : ℕ) → d < 10 → hex_digit_ascii d ≡ digit d
-glyph_digit d h = rw (lt-ltb d 10 h)
-
--- the fewest digits that hold n are its decimal form
-pub fewest_digits : (k n : ℕ) → IsDigitCount 10 1 n k → last_digits 10 k n ≡ decimal_of n
-fewest_digits zero n f = absurd (omega arith)
-fewest_digits (suc zero) n f = rw (decimal_small n (omega arith), glyph_digit (n % 10) (omega arith)) (ap (λ (d : ℕ). digit d ∷ []) (omega arith))
-fewest_digits (suc (suc k)) n f =
-    let less : suc (suc k) - 1 ≡ suc k = omega arith in
-    let least : 10 ^ suc k ≤ n = rw less at (f.2 (omega arith)) in
-    let less' : suc k - 1 ≡ k = omega arith in
-    let tenth : IsDigitCount 10 1 (n / 10) (suc k) = (omega arith, omega arith, λ h. rw less' (omega arith)) in
-    rw (decimal_more n (omega arith), glyph_digit (n % 10) (omega arith), fewest_digits (suc k) (n / 10) tenth)
-
--- 20 digits hold a number of 64 bits
-pub few_digits : (k n : ℕ) → IsDigitCount 10 1 n k → n < 2 ^ 64 → k ≤ 20
-few_digits k n f h = go (test k 21)
-  where
-    go : Test k 21 → k ≤ 20
-    go (below s) = omega arith
-    go (above b) = absurd (omega (arith, pow-le-pow_right {n = 10} (omega arith) {i = 20} {j = k - 1} (omega arith), f.2 (omega arith)))
+-- what std writes of a number is its decimal form
+pub same_decimal : (n : ℕ) → n < 2 ^ 64 → decimal n ≡ decimal_of n
+same_decimal = decimal_by_steps (λ n ds. ds ≡ decimal_of n) (λ n h. sym (decimal_small n h)) (λ n ds h e. ap (λ (l : List ℕ). l ++ digit (n % 10) ∷ []) e ∙ sym (decimal_more n h))

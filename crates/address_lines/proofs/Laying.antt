@@ -1,17 +1,18 @@
 -- Bytes laid over a buffer one after another.
 use mathlib.Core.Path.{◌≡◌, refl, sym, ap, ◌∙◌}
 use mathlib.Core.List.{List, [], ◌∷◌, ◌++◌}
-use Prim.Native.Nat.{ℕ, zero, suc, ◌+◌, ◌<◌, ◌≤◌}
+use Prim.Native.Nat.{ℕ, ◌+◌, ◌^◌, ◌<◌, ◌≤◌}
 use native.Mathlib.Omega.{arith}
 use lib.ListN.{length, take, drop, get_or, set, length-append, length-set}
 use lib.Seq.{sets, sets-eq, take_all, take-append-le, length-take-le}
 use Rattle.base.proofs.Overlay.{sets_append, sets_next}
-use Rattle.io.specs.Digits.{last_digits, IsDigitCount}
+use Rattle.std.specs.Fmt.{decimal}
+use Rattle.std.proofs.lemmas.Fmt.{length-decimal-le}
 use Rattle.base.specs.Overlay.{Wrote}
 use Rattle.base.proofs.Overlay.{wrote_then}
 use Rattle.case.specs.declared.Answer.{Answer}
 use Rattle.address.specs.Line.{decimal_of, field_of, space, newline, line_of, LineAt}
-use Rattle.address_lines.proofs.Decimal.{fewest_digits}
+use Rattle.address_lines.proofs.Decimal.{same_decimal}
 
 -- ---- copying
 
@@ -36,16 +37,16 @@ module _ (out₀ : List ℕ) (at : ℕ) (text out : List ℕ) (i : ℕ) (q : Cop
 
 -- ---- a number and the byte after it
 
-module _ (n k : ℕ) (text : List ℕ) (few : IsDigitCount 10 1 n k) (spelt : take k text ≡ last_digits 10 k n) (fits : k ≡ length (take k text)) where
-  pub decimal_text : take k text ≡ decimal_of n
-  decimal_text = spelt ∙ fewest_digits k n few
+module _ (n : ℕ) (fits : n < 2 ^ 64) (text : List ℕ) (spelt : text ≡ decimal n) where
+  pub few_digits : length text ≤ 20
+  few_digits = rw spelt (length-decimal-le 20 n (omega arith) (omega arith) fits)
 
-  pub field_laid : (old new : List ℕ) (at last : ℕ) → new ≡ sets old at (take k text) → Wrote old at (field_of n last) (at + k + 1) (set new (at + k) last)
+  pub field_laid : (old new : List ℕ) (at last : ℕ) → new ≡ sets old at text → Wrote old at (field_of n last) (at + length text + 1) (set new (at + length text) last)
   field_laid old new at last e =
-      let long : k ≡ length (decimal_of n) = rw decimal_text at fits in
+      let same : text ≡ decimal_of n = spelt ∙ same_decimal n fits in
       record {
-        place = omega (arith, long, length-append (decimal_of n) (last ∷ []));
-        bytes = rw (sets_append old at (decimal_of n) (last ∷ []), ← long, e, decimal_text);
+        place = rw (length-append, ← same) (omega arith);
+        bytes = rw (sets_append old at (decimal_of n) (last ∷ []), ← same, e);
       }
 
 -- ---- three of them

@@ -1,15 +1,19 @@
 // The small program of 01: a line for each address on standard input, over a case in three files.
 #![tactic(auto)]
 
-ghost use Rattle.std.specs.Prelude.{◌≡◌, ◌+◌, ◌≤◌, length, take};
+ghost use Rattle.std.specs.Prelude.{◌≡◌, ◌+◌, ◌≤◌, length, take, OnOk, OnErr};
 ghost use Rattle.std.proofs.lemmas.List.Edits.{sets};
+ghost use Rattle.std.specs.Io.KnownBytes.{Appends};
 ghost use Rattle.base.specs.Overlay.{Wrote};
 ghost use Rattle.case.specs.Case.{case_of};
 ghost use Rattle.address.specs.Call.{address_of};
 ghost use Rattle.address.specs.Line.{field_of, line_of, LineAt};
 ghost use Rattle.address_lines.specs.Files.{FilesRead, case_of_files, line_for};
 
-use libc::{STDIN_FILENO, STDOUT_FILENO};
+use std::env::Env;
+use std::io::{ErrorKind, Read, Write};
+use std::rt::Files as OpenFiles;
+use std::{fs, io, str};
 
 // Writes the line of an address and answers its length; three numbers of 20 digits need 63 bytes.
 pub fn write_line(
@@ -28,17 +32,18 @@ pub fn write_line(
 }
 
 // Prints the line of each address on standard input; nothing if a file cannot be read or the three have more than 65,536 bytes.
-pub fn run() {
+// An error is one of standard input or output.
+pub fn run(rt: &(impl OpenFiles + Env + Input + Print)) -> io::Result<()> {
     // One byte more than the limit, so that a longer case shows.
     let mut buf = [0u8; 65537];
-    let files = load_all(&mut buf);
+    let files = load_all(rt, &mut buf);
     if !files.ok {
-        return;
+        return Ok(());
     }
     if 65536 < files.end {
-        return;
+        return Ok(());
     }
-    answer_all(&buf, files);
+    answer_all(&mut rt.reader(), &mut io::writer(rt), &buf, files)
 }
 
 // ---- the line
@@ -49,10 +54,10 @@ fn put_number(out: &mut [u8], at: usize, n: u64, last: u8) -> usize
     ensures wrote { Wrote out.old at (field_of n last) result out.new }
     ensures upper_bound { result ≤ at + 21 }
 {
-    let mut text = [0u8; 20];
-    let digits = io::decimal(n, &mut text);
-    copy(out, at, &text[..digits]);
-    let end = at + digits;
+    let mut text = itoa::Buffer::new();
+    let digits = text.format(n).as_bytes();
+    copy(out, at, digits);
+    let end = at + digits.len();
     out[end] = last;
     end + 1
 }
@@ -87,12 +92,12 @@ struct Loaded {
 }
 
 // The files that the three arguments name, one after another.
-fn load_all(buf: &mut [u8]) -> Files
+fn load_all(rt: &(impl OpenFiles + Env), buf: &mut [u8]) -> Files
     ensures { (result.image ≤ result.pagefile) × (result.pagefile ≤ result.end) × (result.end ≤ length buf.new) }
 {
-    let sheet = load(1, buf, 0);
-    let image = load(2, buf, sheet.end);
-    let pagefile = load(3, buf, image.end);
+    let sheet = load(rt, 1, buf, 0);
+    let image = load(rt, 2, buf, sheet.end);
+    let pagefile = load(rt, 3, buf, image.end);
     Files {
         ok: sheet.ok && image.ok && pagefile.ok,
         image: sheet.end,
@@ -102,39 +107,35 @@ fn load_all(buf: &mut [u8]) -> Files
 }
 
 // The file that an argument names, from `at` on.
-fn load(argument: usize, buf: &mut [u8], at: usize) -> Loaded
+fn load(rt: &(impl OpenFiles + Env), argument: usize, buf: &mut [u8], at: usize) -> Loaded
     requires { at ≤ length buf.old }
     ensures at_le_end { (at ≤ result.end) × (result.end ≤ length buf.old) }
     ensures before { take at buf.new ≡ take at buf.old }
 {
-    let mut path = io::buffer();
-    let n = os::arg(argument, &mut path);
-    if os::errno() != 0 {
+    let mut path = [0u8; 4096];
+    let Ok(n) = rt.arg(argument, &mut path) else {
         return Loaded { ok: false, end: at };
-    }
-    let fd = os::open_read(&path[..n]);
-    if fd < 0 {
+    };
+    let Ok(name) = str::from_utf8(&path[..n]) else {
         return Loaded { ok: false, end: at };
-    }
-    let loaded = read_all(fd, buf, at);
-    libc::close(fd);
-    loaded
+    };
+    let Ok(mut file) = fs::open(rt, name) else {
+        return Loaded { ok: false, end: at };
+    };
+    read_all(&mut file, buf, at)
 }
 
 // Reads to the end of the file, or as much as the buffer holds.
-fn read_all(fd: i32, buf: &mut [u8], at: usize) -> Loaded
+fn read_all(file: &mut impl Read, buf: &mut [u8], at: usize) -> Loaded
     requires { at ≤ length buf.old }
     ensures at_le_end { (at ≤ result.end) × (result.end ≤ length buf.old) }
     ensures before { take at buf.new ≡ take at buf.old }
 {
     let mut end = at;
     while end < buf.len() {
-        // `io::read_full` would take a read that fails, as of a directory, for the end of the file.
-        let got = libc::read(fd, &mut buf[end..]);
-        if got < 0 {
+        let Ok(more) = file.read(&mut buf[end..]) else {
             return Loaded { ok: false, end };
-        }
-        let more = io::count(got, &buf[end..]);
+        };
         if more == 0 {
             return Loaded { ok: true, end };
         }
@@ -145,27 +146,49 @@ fn read_all(fd: i32, buf: &mut [u8], at: usize) -> Loaded
 
 // ---- the addresses
 
-fn answer_all(buf: &[u8], files: Files)
+fn answer_all(
+    input: &mut impl Read,
+    output: &mut impl Write,
+    buf: &[u8],
+    files: Files,
+) -> io::Result<()>
     requires { FilesRead buf.now files }
 {
     // No input has 2^64 - 1 addresses.
-    let mut turns = u64::MAX;
-    while turns > 0 && answer_next(buf, files) {
-        turns -= 1;
+    for _ in 0..u64::MAX {
+        if !answer_next(input, output, buf, files)? {
+            break;
+        }
     }
+    Ok(())
 }
 
 // Reads an address and prints its line; answers whether to go on.
-fn answer_next(buf: &[u8], files: Files) -> bool
+fn answer_next(
+    input: &mut impl Read,
+    output: &mut impl Write,
+    buf: &[u8],
+    files: Files,
+) -> io::Result<bool>
     requires { FilesRead buf.now files }
 {
     let mut address = [0u8; 8];
-    if io::read_full(STDIN_FILENO, &mut address) < 8 {
-        return false;
+    if !read_whole(input, &mut address)? {
+        return Ok(false);
     }
     let mut line = [0u8; 64];
     let n = line_from_files(buf, files, words::word_at(&address, 0), &mut line);
-    print_line(buf, files, &address, &line[..n])
+    print_line(output, buf, files, &address, &line[..n])?;
+    Ok(true)
+}
+
+// Fills the buffer; answers false where the input ends before.
+fn read_whole(input: &mut impl Read, bytes: &mut [u8]) -> io::Result<bool> {
+    match input.read_exact(bytes) {
+        Ok(()) => Ok(true),
+        Err(e) if e.kind() == ErrorKind::UnexpectedEof => Ok(false),
+        Err(e) => Err(e),
+    }
 }
 
 // The line of an address, over the three files in the buffer.
@@ -186,9 +209,16 @@ fn line_from_files(buf: &[u8], files: Files, address: u64, out: &mut [u8; 64]) -
 }
 
 // Prints a line. No contract of the system says what was printed, so the `requires` says what is handed over.
-fn print_line(buf: &[u8], files: Files, address: &[u8], line: &[u8]) -> bool
+fn print_line<W: Write>(
+    output: &mut W,
+    buf: &[u8],
+    files: Files,
+    address: &[u8],
+    line: &[u8],
+) -> io::Result<()>
     requires files_read { FilesRead buf.now files }
     requires line_value { line.now ≡ line_for buf.now files address.now }
+    ensures { OnOk result (Appends (W.contents output.old) (W.contents output.new) line.now) }
 {
-    io::write_all(STDOUT_FILENO, line)
+    output.write_all(line)
 }

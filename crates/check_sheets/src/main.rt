@@ -4,86 +4,111 @@
 #![tactic(auto)]
 
 use base::Fault;
-use libc::{STDIN_FILENO, STDOUT_FILENO};
 use sheet::{Header, SheetRead};
+use std::io;
+use std::io::{ErrorKind, Read, Write};
 
 // Edition, directory page, mode, place, count and 1,000 runs take no more.
 const MOST_BYTES: u64 = 12011;
 
-fn main() {
+fn main(rt: HostRuntime) -> io::Result<()> {
+    let mut input = rt.reader();
+    let mut output = io::writer(&rt);
     // No input has 2^64 - 1 records.
-    let mut turns = u64::MAX;
-    while turns > 0 && check_next() {
-        turns -= 1;
+    for _ in 0..u64::MAX {
+        if !check_next(&mut input, &mut output)? {
+            break;
+        }
     }
+    Ok(())
 }
 
-fn check_next() -> bool {
+// Answers whether there was a record.
+fn check_next(input: &mut impl Read, output: &mut impl Write) -> io::Result<bool> {
     let mut lengths = [0u8; 24];
-    if io::read_full(STDIN_FILENO, &mut lengths) < 24 {
-        return false;
+    if !read_whole(input, &mut lengths)? {
+        return Ok(false);
     }
     let length = words::word_at(&lengths, 16);
     if MOST_BYTES < length {
-        return false;
+        return Ok(false);
     }
     let n = length as usize;
     let mut bytes = [0u8; 12011];
     check_one(
+        input,
+        output,
         words::word_at(&lengths, 0),
         words::word_at(&lengths, 8),
         &mut bytes[..n],
     )
 }
 
-fn check_one(image: u64, pagefile: u64, bytes: &mut [u8]) -> bool {
-    if io::read_full(STDIN_FILENO, bytes) < bytes.len() {
-        return false;
+fn check_one(
+    input: &mut impl Read,
+    output: &mut impl Write,
+    image: u64,
+    pagefile: u64,
+    bytes: &mut [u8],
+) -> io::Result<bool> {
+    if !read_whole(input, bytes)? {
+        return Ok(false);
     }
     let mut rows = [0u64; 3000];
     match sheet_reader::read_sheet(bytes, image, pagefile, &mut rows) {
         SheetRead::Refused(fault) => {
-            print_fault(fault);
+            print_fault(output, fault)?;
         }
         SheetRead::Accepted(header) => {
-            print_case(header, &rows);
+            print_case(output, header, &rows)?;
         }
     }
-    io::write_all(STDOUT_FILENO, b"\n")
+    output.write_all(b"\n")?;
+    Ok(true)
 }
 
-fn print_fault(fault: Fault) {
-    let refusal = fault.refusal;
-    let number = refusal.number();
-    io::print_decimal(STDOUT_FILENO, number);
-    if number == 11 || number == 18 {
-        print_next(fault.shown_position());
+// Fills the buffer; answers false where the input ends before.
+fn read_whole(input: &mut impl Read, bytes: &mut [u8]) -> io::Result<bool> {
+    match input.read_exact(bytes) {
+        Ok(()) => Ok(true),
+        Err(e) if e.kind() == ErrorKind::UnexpectedEof => Ok(false),
+        Err(e) => Err(e),
     }
 }
 
-fn print_case(header: Header, rows: &[u64; 3000]) {
-    io::print_decimal(STDOUT_FILENO, 0);
+fn print_fault(output: &mut impl Write, fault: Fault) -> io::Result<()> {
+    let refusal = fault.refusal;
+    let number = refusal.number();
+    write!(output, "{number}")?;
+    if number == 11 || number == 18 {
+        print_next(output, fault.shown_position())?;
+    }
+    Ok(())
+}
+
+fn print_case(output: &mut impl Write, header: Header, rows: &[u64; 3000]) -> io::Result<()> {
+    write!(output, "0")?;
     let space = header.space;
     let directory = space.directory;
-    print_next(directory.number());
+    print_next(output, directory.number())?;
     let mode = space.mode;
-    print_next(sheet::mode_number(mode));
-    print_next(sheet::place_of(mode));
+    print_next(output, sheet::mode_number(mode))?;
+    print_next(output, sheet::place_of(mode))?;
     let count = header.count;
-    print_next(count as u64);
+    print_next(output, count as u64)?;
     let mut i = 0;
     while i < 1000 {
         if count <= i {
-            return;
+            return Ok(());
         }
         let first = rows[3 * i];
-        print_next(first);
-        print_next(std::num::wrapping_sub_u64(rows[3 * i + 1], first));
+        print_next(output, first)?;
+        print_next(output, std::num::wrapping_sub_u64(rows[3 * i + 1], first))?;
         i += 1;
     }
+    Ok(())
 }
 
-fn print_next(n: u64) {
-    io::write_all(STDOUT_FILENO, b" ");
-    io::print_decimal(STDOUT_FILENO, n);
+fn print_next(output: &mut impl Write, n: u64) -> io::Result<()> {
+    write!(output, " {n}")
 }
