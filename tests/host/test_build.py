@@ -31,7 +31,7 @@ class Environment(BuildTest):
         path = f"{self.directory}:{os.environ['PATH']}"
         env = {**kept, "PATH": path, "RECORD": str(record), "CC": str(self.directory / "recorder"), **variables}
         subprocess.run([ROOT / "host" / "build"], env=env, check=True)
-        return [line.split() for line in record.read_text().splitlines() if not line.startswith("staticlib")]
+        return [line.split() for line in record.read_text().splitlines() if line.split() != ["lib"]]
 
     def test_nothing_given(self):
         program = self.calls()[0]
