@@ -2,7 +2,7 @@
 use mathlib.Core.Path.{◌≡◌, refl, sym, ap, subst, ◌∙◌}
 use mathlib.Core.List.{List}
 use mathlib.Core.Bool.{true}
-use Prim.Native.Nat.{ℕ, zero, suc, ◌+◌, ◌*◌, ◌≤◌}
+use Prim.Native.Nat.{ℕ, ◌+◌, ◌*◌, ◌≤◌}
 use native.Mathlib.Omega.{arith}
 use lib.ListN.{length, take}
 use lib.Seq.{sets, sets-eq, take_at}
@@ -21,7 +21,7 @@ use Rattle.sheet.specs.declared.SheetRead.TheVariants as sheet_told
 use Rattle.sheet.proofs.ManyRuns.{rows_length}
 use Rattle.sheet.proofs.AcceptedCase.{AcceptedCase, accepted_laws}
 use Rattle.sheet.proofs.Short.{few_runs_lem}
-use Rattle.walk.specs.Walk.{World, world_of, resolve_of, Grounded}
+use Rattle.walk.specs.Walk.{world_of, resolve_of, Grounded}
 use Rattle.walk.specs.Rows.{four_levels, rows_world}
 use Rattle.walk.proofs.Ground.{Sound, grounded}
 use Rattle.walk.proofs.CaseWorld.{same_world, sound_case}
