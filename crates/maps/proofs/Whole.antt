@@ -44,7 +44,7 @@ use Rattle.maps.specs.MapOf.{allowed, mapped_page_of, pages_of, header_of, map_o
 use Rattle.maps.specs.Demand3.{walk_answer, AnswersAsWalk, Fewest, Demand3}
 use Rattle.maps.specs.Call.{map_outcome, map_call, MapAnswer}
 use Rattle.base.specs.declared.Written.{Written}
-use Rattle.base.specs.Written.{not_written, fault_written, written}
+use Rattle.base.specs.Written.{not_written, fault_written}
 use Rattle.maps.proofs.Ranges.{Allowed, allowed_range, in_range_lem, start_in_half, range_reached, placed_allowed}
 use Rattle.maps.proofs.Mapping.{mappable, pages_long}
 

@@ -1,13 +1,13 @@
 -- 01's wrong program "a map right in its first extent only" does not keep demand 3, at a named case and range.
 use mathlib.Core.Path.{◌≡◌, refl, ap}
 use mathlib.Core.List.{List, [], ◌∷◌}
-use Prim.Native.Nat.{ℕ, ◌≤◌, ◌<◌}
+use Prim.Native.Nat.{ℕ}
 use native.Mathlib.Omega.{arith}
 use lib.ListN.{replicate}
 use Rattle.base.specs.Codes.{is_code}
 use Rattle.varint.specs.Groups.{decode, number}
 use Rattle.varint.specs.Edition.{edition, edition_fields}
-use Rattle.words.specs.Words.{word_at, little_at}
+use Rattle.words.specs.Words.{little_at}
 use Rattle.entry.specs.Pages.{frame}
 use Rattle.entry.specs.Addresses.{reachable, reachable_in}
 use Rattle.entry.specs.Entry.{level_of, leaf_of, leaf_in, upper_of}

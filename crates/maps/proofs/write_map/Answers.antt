@@ -1,0 +1,53 @@
+-- The loop keeps `Mapping`: the builder has taken the pages so far; at its end the header, these pages and the open extent are the map.
+use mathlib.Core.Path.{ap, ◌∙◌}
+use native.Mathlib.Omega.{arith}
+use Rattle.entry.specs.declared.VirtualPage.{VirtualPage}
+use Rattle.walk.specs.Rows.{rows_world}
+use Rattle.walk.proofs.Cycle.{sound_rows}
+use Rattle.maps.proofs.Ranges.{allowed_range, placed_allowed, range_top}
+use Rattle.maps.proofs.Mapping.{mapping_none, mapping_room, mapping_next, mapping_end, map_written, wrote_long}
+use Rattle.maps.proofs.write_map.Goals as goal
+
+pub write_header-at-requires : goal.write_header-at-requires
+write_header-at-requires c =
+    let start-page = ap (λ (page : VirtualPage). page.0) c.of_address.ensures in
+    (omega (arith, start-page), omega (arith, (allowed_range _ _ _ c.requires.0).most))
+
+pub loop-i-init : goal.loop-i-init
+loop-i-init c =
+    let world = rows_world c.args.rows.now c.args.space c.args.image.now c.args.pagefile.now in
+    let header = rw c.of_address.ensures at c.write_header-at.ensures in
+    mapping_none world _ _ _ _ (allowed_range _ _ _ c.requires.0).most header
+
+pub overflow_mul-i : goal.overflow_mul-i
+overflow_mul-i c = omega (arith, (allowed_range _ _ _ c.requires.0).most)
+
+pub overflow_add-start : goal.overflow_add-start
+overflow_add-start c = omega (arith, range_top (allowed_range _ _ _ c.requires.0))
+
+pub push-builder-requires : goal.push-builder-requires
+push-builder-requires c = mapping_room c.loop-i.invariant c.loop-i-test.true
+
+pub overflow_add-i : goal.overflow_add-i
+overflow_add-i c = omega (arith, c.loop-i-test.true, (allowed_range _ _ _ c.requires.0).most)
+
+pub loop-i-preserved : goal.loop-i-preserved
+loop-i-preserved c =
+    let sound = sound_rows c.args.rows.now c.args.space c.args.image.now c.args.pagefile.now in
+    let found = c.resolve_in-found.ensures in
+    let page = c.mapped_page.ensures in
+    let next = mapping_next c.loop-i.invariant sound c.requires.1 (placed_allowed c.args.space.mode _ _ ∙ c.requires.0) c.loop-i-test.true in
+    next _ found _ page _ _ c.push-builder.ensures
+
+pub finish-requires : goal.finish-requires
+finish-requires c = mapping_end c.loop-i.invariant c.loop-i-test.false
+
+pub shape_of-out : goal.shape_of-out
+shape_of-out c =
+    let header = rw c.of_address.ensures at c.write_header-at.ensures in
+    wrote_long (map_written header c.loop-i.invariant c.loop-i-test.false c.finish.ensures)
+
+pub returns : goal.returns
+returns c =
+    let header = rw c.of_address.ensures at c.write_header-at.ensures in
+    map_written header c.loop-i.invariant c.loop-i-test.false c.finish.ensures
