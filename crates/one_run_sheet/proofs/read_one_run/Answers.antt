@@ -1,26 +1,12 @@
 -- The header of edition 1 with one run, and the rest.
+use native.Mathlib.Omega.{arith}
 use Rattle.varint.proofs.Short.{short_got}
 use Rattle.one_run_sheet.proofs.Whole.{told, other_told}
 use Rattle.one_run_sheet.proofs.read_one_run.Goals as goal
-
-pub returns-then-edition-ne-EDITION : goal.returns-then-edition-ne-EDITION
-returns-then-edition-ne-EDITION c = other_told
-
-pub returns-then-count-ne1 : goal.returns-then-count-ne1
-returns-then-count-ne1 c = other_told
-
-pub returns-in-NotShort : goal.returns-in-NotShort
-returns-in-NotShort c = other_told
-
-pub returns-in-NotShort-read_short : goal.returns-in-NotShort-read_short
-returns-in-NotShort-read_short c = other_told
-
-pub returns-in-NotShort-read_short-2 : goal.returns-in-NotShort-read_short-2
-returns-in-NotShort-read_short-2 c = other_told
 
 pub returns-else-count-ne1 : goal.returns-else-count-ne1
 returns-else-count-ne1 c =
     let edition = short_got _ 0 _ _ _ c.read_short.ensures c.in-Value.is in
     let directory = short_got _ _ _ _ _ c.read_short-in-Value.ensures c.in-Value-read_short.is in
     let count = short_got _ _ _ _ _ c.read_short-in-Value-read_short.ensures c.in-Value-read_short-2.is in
-    told _ _ _ _ _ _ _ _ _ c.if-edition-ne-EDITION.false edition directory c.if-count-ne1.false count _ c.read_rest.ensures
+    told _ _ _ _ _ _ _ _ _ (omega arith) edition directory (omega arith) count _ c.read_rest.ensures

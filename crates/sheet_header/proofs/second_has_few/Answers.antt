@@ -10,24 +10,24 @@ use Rattle.sheet_header.proofs.second_has_few.Goals as goal
 pub returns-then-edition-ne-SECOND_EDITION : goal.returns-then-edition-ne-SECOND_EDITION
 returns-then-edition-ne-SECOND_EDITION c =
     let given = c.requires in
-    none_by_count _ _ (other_edition _ _ _ given.0 given.1 (λ two. omega (arith, two, c.if-edition-ne-SECOND_EDITION.true)))
+    none_by_count _ _ (other_edition _ _ _ given.0 given.1 (λ two. omega (arith, two)))
 
 pub returns-in-Refused : goal.returns-in-Refused
 returns-in-Refused c =
-    let two : c.args.edition ≡ 2 = omega (arith, c.if-edition-ne-SECOND_EDITION.false) in
+    let two : c.args.edition ≡ 2 = omega arith in
     let no = refused_bad _ _ _ c.read_field.ensures c.in-Refused.is in
     none_by_count _ _ (no_directory _ _ _ c.requires.0 (second_known _ two) _ no)
 
 pub returns-in-Refused-read_mode : goal.returns-in-Refused-read_mode
 returns-in-Refused-read_mode c =
-    let two : c.args.edition ≡ 2 = omega (arith, c.if-edition-ne-SECOND_EDITION.false) in
+    let two : c.args.edition ≡ 2 = omega arith in
     let directory = value_got _ _ _ _ c.read_field.ensures c.in-Value.is in
     let no = mode_bad _ _ _ c.read_mode.ensures c.in-Refused-read_mode.is in
     none_by_count _ _ (no_mode _ _ _ c.requires.0 (second_known _ two) _ _ directory _ (second_mode _ _ _ _ two no))
 
 pub returns-in-Refused-read_field : goal.returns-in-Refused-read_field
 returns-in-Refused-read_field c =
-    let two : c.args.edition ≡ 2 = omega (arith, c.if-edition-ne-SECOND_EDITION.false) in
+    let two : c.args.edition ≡ 2 = omega arith in
     let directory = value_got _ _ _ _ c.read_field.ensures c.in-Value.is in
     let mode = mode_got _ _ _ _ c.read_mode.ensures c.in-Mode.is in
     let no = refused_bad _ _ _ c.read_field-in-Mode.ensures c.in-Refused-read_field.is in
@@ -35,7 +35,7 @@ returns-in-Refused-read_field c =
 
 pub returns-in-Value-read_field : goal.returns-in-Value-read_field
 returns-in-Value-read_field c =
-    let two : c.args.edition ≡ 2 = omega (arith, c.if-edition-ne-SECOND_EDITION.false) in
+    let two : c.args.edition ≡ 2 = omega arith in
     let directory = value_got _ _ _ _ c.read_field.ensures c.in-Value.is in
     let mode = mode_got _ _ _ _ c.read_mode.ensures c.in-Mode.is in
     let count = value_got _ _ _ _ c.read_field-in-Mode.ensures c.in-Value-read_field.is in

@@ -7,9 +7,9 @@ use Rattle.sheet.proofs.OneRun.{by_numbers}
 use Rattle.sheet_runs.proofs.read_run.Goals as goal
 
 pub run_of-requires : goal.run_of-requires
-run_of-requires c = (omega (arith, c.if-gap-ge128.false), (field_below _ _ _ _ (short_got _ _ _ _ _ c.read_short.ensures c.in-Value.is), c.requires))
+run_of-requires c = (omega arith, (field_below _ _ _ _ (short_got _ _ _ _ _ c.read_short.ensures c.in-Value.is), c.requires))
 
 pub returns-in-Value : goal.returns-in-Value
 returns-in-Value c =
-    let gap = value_got _ _ _ _ (one_group _ _ _ c.if-s-at.false c.byte_value-gap.ensures.0 c.if-gap-ge128.false) refl in
+    let gap = value_got _ _ _ _ (one_group _ _ _ c.if-s-at.false c.byte_value-gap.ensures.0 (omega arith)) refl in
     rw c.run_of.ensures (by_numbers _ _ _ _ _ _ gap _ _ (short_got _ _ _ _ _ c.read_short.ensures c.in-Value.is))
