@@ -1,0 +1,6 @@
+-- The part for what the address call answers.
+use Rattle.address.proofs.Answers.{paged}
+use Rattle.address.proofs.page_part.Goals as goal
+
+pub returns : goal.returns
+returns c = rw c.part_of.ensures (paged _ _ _ c.resolve_long.ensures)
