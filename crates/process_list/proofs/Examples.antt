@@ -1,7 +1,7 @@
 -- P11 of 01, for the statement over P1 to P12; and named inputs at which a wrong list would answer otherwise.
 use mathlib.Core.Path.{◌≡◌, refl}
 use mathlib.Core.List.{List, [], ◌∷◌, ◌++◌}
-use Prim.Native.Nat.{ℕ, zero, ◌/◌, ◌%◌}
+use Prim.Native.Nat.{ℕ, ◌/◌, ◌%◌}
 use native.Mathlib.Omega.{arith}
 use lib.ListN.{length, replicate}
 use Rattle.base.specs.Example.{Example, same, every, Hold}
@@ -12,7 +12,7 @@ use Rattle.varint.specs.Reader as read
 use Rattle.entry.specs.Pages.{frame}
 use Rattle.entry.specs.Addresses.{reachable, reachable_in}
 use Rattle.entry.specs.Entry.{level_of, leaf_of, leaf_in, upper_of}
-use Rattle.words.specs.Words.{word_at, little_at}
+use Rattle.words.specs.Words.{little_at}
 use Rattle.sheet.specs.Sheet.{Sheet, space_at}
 use Rattle.walk.specs.Walk.{World, world_of, frame_in, settle_of, descend_of, resolve_of}
 use Rattle.case.specs.Case.{Case, check_of, by_check, served, in_four_levels}

@@ -1,5 +1,5 @@
 -- 01's wrong program "a list that follows one link and repeats it" does not keep the promise of the list call.
-use mathlib.Core.Path.{◌≡◌, refl}
+use mathlib.Core.Path.{refl}
 use mathlib.Core.List.{List, ◌∷◌}
 use Prim.Native.Nat.{ℕ, suc}
 use Rattle.walk.specs.Walk.{World}
