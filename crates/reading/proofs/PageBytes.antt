@@ -1,26 +1,25 @@
 -- The bytes of one page at a time are the bytes one by one.
 use mathlib.Core.Path.{◌≡◌, refl, sym, ap, ◌∙◌}
 use mathlib.Core.List.{List, [], ◌∷◌, ◌++◌, append_assoc, append-nil}
-use mathlib.Core.Bool.{Bool, true, false, ◌||◌, ◌&&◌}
+use mathlib.Core.Bool.{Bool, true, false, ◌||◌}
 use Prim.Native.Nat.{ℕ, zero, suc, ◌+◌, ◌-◌, ◌*◌, ◌/◌, ◌%◌, ◌^◌, ◌≤◌, ◌<◌, min}
 use native.Mathlib.Nat.{le-min}
 use native.Mathlib.Numerals.{add-one}
 use native.Mathlib.Omega.{arith}
 use lib.ListN.{length, take, drop, replicate, length-append, length-drop, length-replicate}
 use lib.Seq.{sets, length-sets, length-take-le}
-use borrow.Author.Tests.{le-ltb}
 use Rattle.base.specs.declared.Refusal.{Refusal}
 use Rattle.base.specs.declared.Refusal.TheVariants.{NotCanonical}
 use Rattle.base.proofs.Overlay.{sets_append}
 use Rattle.sheet.specs.declared.AddressSpace.{AddressSpace}
 use Rattle.walk.specs.Walk.{World, resolve_of}
 use Rattle.entry.proofs.Addresses.{past_top as unreachable}
-use Rattle.walk.specs.Rows.{rows_world, next_of, resolved_of}
+use Rattle.walk.specs.Rows.{rows_world, resolved_of}
 use Rattle.walk.specs.declared.Place.{Place}
 use Rattle.walk.specs.declared.Place.TheVariants.{Image, Pagefile, Zeros, Refused}
 use Rattle.walk.specs.declared.Resolved.{Resolved}
 use Rattle.walk.proofs.SamePage.{moved, same_page}
-use Rattle.walk.proofs.Ground.{Sound, At, resolve_at}
+use Rattle.walk.proofs.Ground.{At, resolve_at}
 use Rattle.walk.proofs.Cycle.{body, sound_rows}
 use Rattle.reading.specs.Bytes.{Bytes, bytes, refused, before, byte_then, bytes_of}
 use Rattle.reading.specs.Inner.{piece_of, PieceInside, filled_of, BytesLaid, FilledWith}

@@ -1,11 +1,10 @@
 -- The first pass over an empty buffer, then the writing pass; and the read call above them.
-use mathlib.Core.Path.{◌≡◌, refl, sym, ap, ◌∙◌}
+use mathlib.Core.Path.{◌≡◌, refl, sym, ◌∙◌}
 use mathlib.Core.List.{List, [], ◌∷◌, ◌++◌}
-use mathlib.Core.Bool.{Bool, true, false}
-use Prim.Native.Nat.{ℕ, zero, ◌+◌, ◌≤◌, ◌<◌}
+use mathlib.Core.Bool.{Bool}
+use Prim.Native.Nat.{ℕ, ◌+◌, ◌≤◌, ◌<◌}
 use native.Mathlib.Omega.{arith}
 use lib.ListN.{length, take}
-use lib.Seq.{sets}
 use borrow.Author.Tests.{lt-ltb, le-ltb}
 use Rattle.base.specs.declared.Fault.{Fault}
 use Rattle.base.specs.declared.Refusal.{Refusal}
@@ -17,7 +16,7 @@ use Rattle.case.specs.Case.{Case, check_of}
 use Rattle.case.specs.Answer.{GroundedAt}
 use Rattle.case.proofs.Opening.{Accepted, case_grounded}
 use Rattle.reading.specs.Bytes.{Bytes, bytes, refused, bytes_of}
-use Rattle.reading.specs.Call.{ReadOutcome, refused_bytes, fault_bytes, done_bytes, read_all, read_of, ReadAnswer}
+use Rattle.reading.specs.Call.{refused_bytes, fault_bytes, done_bytes, read_all, read_of, ReadAnswer}
 use Rattle.reading.specs.Inner.{filled_of, BytesLaid, FilledWith}
 use Rattle.reading.specs.declared.Filled.{Filled}
 use Rattle.reading.specs.declared.Filled.TheVariants as filled_as
