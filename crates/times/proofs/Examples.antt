@@ -9,7 +9,7 @@ use Rattle.base.specs.Example.{Example, same, Hold}
 use Rattle.base.specs.declared.Refusal.TheVariants.{NotCanonical, RegionNeeded, TimeZero}
 use Rattle.varint.specs.Groups.{decode, number}
 use Rattle.varint.specs.Edition.{edition, edition_fields}
-use Rattle.words.specs.Words.{little, word_at, little_at}
+use Rattle.words.specs.Words.{little, little_at}
 use Rattle.entry.specs.Pages.{frame}
 use Rattle.entry.specs.Addresses.{reachable, reachable_in}
 use Rattle.entry.specs.Entry.{level_of, leaf_of, leaf_in, upper_of}
