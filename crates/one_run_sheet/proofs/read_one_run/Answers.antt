@@ -1,7 +1,7 @@
 -- The header of edition 1 with one run, and the rest.
 use native.Mathlib.Omega.{arith}
 use Rattle.varint.proofs.Short.{short_got}
-use Rattle.one_run_sheet.proofs.Whole.{told, other_told}
+use Rattle.one_run_sheet.proofs.Whole.{told}
 use Rattle.one_run_sheet.proofs.read_one_run.Goals as goal
 
 pub returns-else-count-ne1 : goal.returns-else-count-ne1

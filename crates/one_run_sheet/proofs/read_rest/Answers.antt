@@ -2,7 +2,7 @@
 use native.Mathlib.Omega.{arith}
 use Rattle.varint.proofs.Fields.{field_below}
 use Rattle.varint.proofs.Short.{short_got}
-use Rattle.one_run_sheet.proofs.Whole.{rest_read, told_run, told_other}
+use Rattle.one_run_sheet.proofs.Whole.{rest_read, told_run}
 use Rattle.one_run_sheet.proofs.read_rest.Goals as goal
 
 pub overflow_add-gap : goal.overflow_add-gap
