@@ -208,7 +208,7 @@ fn line_from_files(buf: &[u8], files: Files, address: u64, out: &mut [u8; 64]) -
     )
 }
 
-// Prints a line. No contract of the system says what was printed, so the `requires` says what is handed over.
+// Prints a line. What standard output holds no contract can say, so the `requires` says what the line is.
 fn print_line<W: Write>(
     output: &mut W,
     buf: &[u8],
