@@ -3,12 +3,31 @@
 
 ghost use Rattle.std.specs.Prelude.{◌≡◌, ℕ, ◌≤◌, List, []};
 ghost use Rattle.walk.specs.Walk.{descended, word_of, resolve_of};
+ghost use Rattle.resolution.specs.Open.{open_world};
 ghost use Rattle.walk.specs.Rows.{four_levels, narrow_space, rows_world, descent_of, narrow_descent, WordInside, refused_place, prototype_step, resolved_of};
 
 use base::Refusal;
 use entry::{BIT_32, Frame, Leaf, PagingMode};
 use sheet::AddressSpace;
 use walk::{NarrowDescent, Place, Resolved};
+
+// A case whose sheet was read: the rows of its runs, its address space, and its two files.
+#[derive(Clone, Copy)]
+pub struct OpenCase<'a> {
+    pub rows: &'a [u64],
+    pub space: AddressSpace,
+    pub image: &'a [u8],
+    pub pagefile: &'a [u8],
+}
+
+impl OpenCase<'_> {
+    // Where an address leads, and how many entries were read.
+    pub fn resolve(&self, address: u64) -> Resolved
+        ensures { result ≡ resolved_of (resolve_of 3 (open_world self.now) address) }
+    {
+        resolve_in(self.rows, self.image, self.pagefile, self.space, address)
+    }
+}
 
 // An address of a case whose sheet was read: where it leads, and how many entries were read.
 pub fn resolve_in(
