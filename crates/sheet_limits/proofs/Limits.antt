@@ -1,39 +1,17 @@
--- The limits of what is given, test by test; and what lists within them keep to.
-use mathlib.Core.Path.{◌≡◌, refl}
-use mathlib.Core.Bool.{true, false, and-true, and-false}
+-- What lists within the limits keep to, and that what keeps to all but the last is judged by it.
+use mathlib.Core.Path.{◌≡◌}
+use mathlib.Core.Bool.{true, and-true}
 use mathlib.Core.List.{List, [], ◌∷◌}
-use Prim.Native.Nat.{ℕ, zero, suc, ◌+◌, ◌^◌, ◌<◌, ◌≤◌}
-use native.Mathlib.Numerals.{add-one}
+use Prim.Native.Nat.{ℕ, zero, suc, ◌^◌, ◌<◌, ◌≤◌}
 use native.Mathlib.Omega.{arith}
 use lib.Dec.{ltb, leb, eqb}
-use lib.ListN.{length, get_or, drop, drop_of_length-le}
-use lib.Seq.{drop-cons}
-use borrow.Author.Tests.{lt-ltb, le-ltb, le-leb, lt-leb, eq-eqb, ne_eqb, ltb-true, leb-true, eqb-true}
+use lib.ListN.{length, get_or}
+use borrow.Author.Tests.{lt-ltb, le-leb, eq-eqb, ltb-true, leb-true, eqb-true}
 use Rattle.base.proofs.Test.{both_true}
-use Rattle.sheet.specs.Sheet.{is_place}
 use Rattle.sheet_limits.specs.Write.{all_below, is_mode, in_limits}
 use Rattle.sheet_limits.specs.Inner.{Given}
 
 -- ---- numbers below 2^36
-
--- the numbers before place i are
-pub record Looked (ns : List ℕ) (i : ℕ) : Type 0 where
-  pub within : i ≤ length ns
-  pub same : all_below ns ≡ all_below (drop i ns)
-
-pub looked_none : (ns : List ℕ) → Looked ns 0
-looked_none ns = record { within = omega arith; same = refl }
-
-module _ {ns : List ℕ} {i : ℕ} (q : Looked ns i) where
-  module _ (h : i < length ns) where
-    pub looked_large : 2 ^ 36 ≤ get_or ns i 0 → false ≡ all_below ns
-    looked_large l = rw (q.same, drop-cons ns i 0 h, le-ltb (get_or ns i 0) (2 ^ 36) l)
-
-    pub looked_next : get_or ns i 0 < 2 ^ 36 → Looked ns (i + 1)
-    looked_next l = record { within = omega arith; same = rw (q.same, drop-cons ns i 0 h, lt-ltb (get_or ns i 0) (2 ^ 36) l, add-one) }
-
-  pub looked_all : length ns ≤ i → true ≡ all_below ns
-  looked_all h = rw (q.same, drop_of_length-le ns h)
 
 pub below_at : (ns : List ℕ) (i : ℕ) → all_below ns ≡ true → i < length ns → get_or ns i 0 < 2 ^ 36
 below_at [] i b h = absurd (omega arith)
@@ -43,34 +21,6 @@ below_at (n ∷ ns) (suc i) b h = below_at ns i (both_true (ltb n (2 ^ 36)) (all
 -- ---- all limits
 
 module _ (directory mode place : ℕ) (starts lengths : List ℕ) where
-  pub other_number : (length starts ≡ length lengths → ⊥) → false ≡ in_limits directory mode place starts lengths
-  unfolding in_limits
-  other_number h = rw (ne_eqb (length starts) (length lengths) h, and-false, and-false, and-false)
-
-  pub no_run : length starts < 1 → false ≡ in_limits directory mode place starts lengths
-  unfolding in_limits
-  no_run h = rw (lt-leb 1 (length starts) h, and-false, and-false, and-false, and-false)
-
-  pub many_runs : 1000 < length starts → false ≡ in_limits directory mode place starts lengths
-  unfolding in_limits
-  many_runs h = rw (lt-leb (length starts) 1000 h, and-false, and-false, and-false, and-false, and-false)
-
-  pub large_directory : 2 ^ 36 ≤ directory → false ≡ in_limits directory mode place starts lengths
-  unfolding in_limits
-  large_directory h = rw (le-ltb directory (2 ^ 36) h, and-false)
-
-  pub large_mode : 2 < mode → false ≡ in_limits directory mode place starts lengths
-  unfolding in_limits
-  large_mode h = rw (lt-leb mode 2 h)
-
-  pub other_place : is_place mode place ≡ false → false ≡ in_limits directory mode place starts lengths
-  unfolding in_limits
-  other_place h = rw (h, and-false)
-
-  pub large_start : all_below starts ≡ false → false ≡ in_limits directory mode place starts lengths
-  unfolding in_limits
-  large_start h = rw (h, and-false, and-false)
-
   pub but_lengths : length starts ≡ length lengths → 1 ≤ length starts → length starts ≤ 1000 → directory < 2 ^ 36 → is_mode mode place ≡ true → all_below starts ≡ true
       → all_below lengths ≡ in_limits directory mode place starts lengths
   unfolding in_limits

@@ -1,5 +1,6 @@
 -- 02 orders 4 and 7: the sheet of an address space, and of runs that are given as starts and lengths in pages.
 use Rattle.std.specs.Prelude.{ℕ, ◌+◌, ◌-◌, ◌^◌, Bool, true, ◌&&◌, List, [], ◌∷◌, ◌++◌, ltb, leb, eqb, length, if◌then◌else◌}
+use Rattle.std.specs.List.{list_all}
 use Rattle.base.specs.Notation.{within}
 use Rattle.varint.specs.Groups.{encode}
 use Rattle.entry.specs.Pages.{frame}
@@ -11,8 +12,7 @@ use Rattle.sheet.specs.declared.Run.{Run}
 
 -- every number is below 2^36
 abbrev pub all_below : List ℕ → Bool
-all_below [] = true
-all_below (n ∷ ns) = ltb n (2 ^ 36) && all_below ns
+all_below ns = list_all (λ n. ltb n (2 ^ 36)) ns
 
 -- a paging mode's number, and a place that the directory can have in it
 abbrev pub is_mode : ℕ → ℕ → Bool

@@ -14,42 +14,21 @@ const MOST_RUNS: usize = 1000;
 const LAST_MODE: u64 = 2;
 
 // The lengths of the lists come first, so that long ones are not looked through.
+#[tactic(auto, unfolding(crate::specs::Write::in_limits))]
 pub fn is_in_limits(directory: u64, mode: u64, place: u64, starts: &[u64], lengths: &[u64]) -> bool
     ensures { result ≡ in_limits directory mode place starts.now lengths.now }
 {
-    if starts.len() != lengths.len() {
-        return false;
-    }
-    if starts.len() < 1 {
-        return false;
-    }
-    if MOST_RUNS < starts.len() {
-        return false;
-    }
-    if NUMBER_LIMIT <= directory {
-        return false;
-    }
-    if LAST_MODE < mode {
-        return false;
-    }
-    if !sheet::is_place(mode, place) {
-        return false;
-    }
-    if !all_below(starts) {
-        return false;
-    }
-    all_below(lengths)
+    starts.len() == lengths.len()
+        && (1..=MOST_RUNS).contains(&starts.len())
+        && directory < NUMBER_LIMIT
+        && mode <= LAST_MODE
+        && sheet::is_place(mode, place)
+        && all_below(starts)
+        && all_below(lengths)
 }
 
 fn all_below(numbers: &[u64]) -> bool
     ensures { result ≡ all_below numbers.now }
 {
-    let mut i = 0;
-    while i < numbers.len() {
-        if NUMBER_LIMIT <= numbers[i] {
-            return false;
-        }
-        i += 1;
-    }
-    true
+    numbers.iter().all(|n| *n < NUMBER_LIMIT)
 }
