@@ -1,12 +1,12 @@
--- Allowed ranges: the tests of the code, and what holds of every address of the range.
-use mathlib.Core.Path.{◌≡◌, refl, sym, ◌∙◌}
+-- Allowed ranges: what holds of every address of one.
+use mathlib.Core.Path.{◌≡◌, refl}
 use mathlib.Core.Bool.{Bool, true, false, ◌&&◌, ◌||◌}
 use Prim.Native.Nat.{ℕ, ◌+◌, ◌-◌, ◌*◌, ◌/◌, ◌%◌, ◌^◌, ◌≤◌, ◌<◌}
 use native.Mathlib.Omega.{arith}
 use lib.Dec.{eqb, leb}
-use borrow.Author.Tests.{lt-ltb, le-ltb, le-leb, lt-leb, leb-true, leb-false, eq-eqb, ne_eqb, eqb-true}
+use borrow.Author.Tests.{lt-ltb, le-ltb, le-leb, leb-true, eqb-true}
 use Rattle.base.specs.Notation.{bits, within}
-use Rattle.base.proofs.Test.{Test, test, below, above, both_true}
+use Rattle.base.proofs.Test.{both_true}
 use Rattle.entry.specs.Addresses.{reachable, reachable_in}
 use Rattle.entry.specs.declared.PagingMode.{PagingMode}
 use Rattle.entry.specs.declared.PagingMode.TheVariants.{FourLevel, Plain, Pae}
@@ -14,82 +14,6 @@ use Rattle.walk.specs.Rows.{placed_mode}
 use Rattle.entry.specs.Pages.{virtual_page_of}
 use Rattle.map_format.specs.Reading.{in_half}
 use Rattle.maps.specs.MapOf.{allowed_wide, allowed_narrow, allowed}
-
--- two comparisons that say the same
-same_leb : (a b c d : ℕ) → (a ≤ b → c ≤ d) → (c ≤ d → a ≤ b) → leb a b ≡ leb c d
-same_leb a b c d f g = go (leb a b) refl
-  where
-    go : (t : Bool) → leb a b ≡ t → leb a b ≡ leb c d
-    go true e = e ∙ sym (le-leb c d (f (leb-true a b e)))
-    go false e = e ∙ sym (lt-leb c d (more (leb-false a b e)))
-      where
-        more : b < a → d < c
-        more h = not_le (test d c)
-          where
-            not_le : Test d c → d < c
-            not_le (below l) = l
-            not_le (above l) = absurd (omega (arith, g l))
-
--- ---- the code's tests, in order
-
-module _ (start count : ℕ) where
-  pub unaligned : (start % 4096 ≡ 0 → ⊥) → false ≡ allowed_wide start count
-  unfolding allowed_wide
-  unaligned h = rw (ne_eqb (start % 4096) 0 h)
-
-  module _ (h₁ : start % 4096 ≡ 0) where
-    pub no_pages : count < 1 → false ≡ allowed_wide start count
-    unfolding allowed_wide
-    no_pages h = rw (eq-eqb (start % 4096) 0 h₁, lt-leb 1 count h)
-
-    module _ (h₂ : 1 ≤ count) where
-      pub too_many : 2 ^ 20 < count → false ≡ allowed_wide start count
-      unfolding allowed_wide
-      too_many h = rw (eq-eqb (start % 4096) 0 h₁, le-leb 1 count h₂, lt-leb count (2 ^ 20) h)
-
-      module _ (h₃ : count ≤ 2 ^ 20) where
-        pub between : start < 2 ^ 64 - 2 ^ 47 → 2 ^ 47 < start → false ≡ allowed_wide start count
-        unfolding allowed_wide
-        between l g = rw (eq-eqb (start % 4096) 0 h₁, le-leb 1 count h₂, le-leb count (2 ^ 20) h₃, lt-leb (start + 4096 * count) (2 ^ 47) (omega arith), lt-leb (2 ^ 64 - 2 ^ 47) start l)
-
-        pub low_half : start < 2 ^ 64 - 2 ^ 47 → start ≤ 2 ^ 47 → leb (4096 * count) (2 ^ 47 - start) ≡ allowed_wide start count
-        unfolding allowed_wide
-        low_half l g =
-            rw (eq-eqb (start % 4096) 0 h₁, le-leb 1 count h₂, le-leb count (2 ^ 20) h₃, lt-leb (2 ^ 64 - 2 ^ 47) start l)
-            (same_leb (4096 * count) (2 ^ 47 - start) (start + 4096 * count) (2 ^ 47) (λ x. omega (arith, x)) (λ x. omega (arith, x)) ∙ or_false (leb (start + 4096 * count) (2 ^ 47)))
-          where
-            or_false : (b : Bool) → b ≡ (b || false)
-            or_false true = refl
-            or_false false = refl
-
-        pub high_half : 2 ^ 64 - 2 ^ 47 ≤ start → start < 2 ^ 64 → leb (4096 * count - 1) (2 ^ 64 - 1 - start) ≡ allowed_wide start count
-        unfolding allowed_wide
-        high_half l g =
-            rw (eq-eqb (start % 4096) 0 h₁, le-leb 1 count h₂, le-leb count (2 ^ 20) h₃, le-leb (2 ^ 64 - 2 ^ 47) start l, lt-leb (start + 4096 * count) (2 ^ 47) (omega arith))
-            (same_leb (4096 * count - 1) (2 ^ 64 - 1 - start) (start + 4096 * count) (2 ^ 64) (λ x. omega (arith, x)) (λ x. omega (arith, x)))
-
--- ---- the code's tests of a 32-bit profile
-
-module _ (start count : ℕ) where
-  pub narrow_unaligned : (start % 4096 ≡ 0 → ⊥) → false ≡ allowed_narrow start count
-  unfolding allowed_narrow
-  narrow_unaligned h = rw (ne_eqb (start % 4096) 0 h)
-
-  module _ (h₁ : start % 4096 ≡ 0) where
-    pub narrow_empty : count < 1 → false ≡ allowed_narrow start count
-    unfolding allowed_narrow
-    narrow_empty h = rw (eq-eqb (start % 4096) 0 h₁, lt-leb 1 count h)
-
-    module _ (h₂ : 1 ≤ count) where
-      pub narrow_past : 2 ^ 32 < start → false ≡ allowed_narrow start count
-      unfolding allowed_narrow
-      narrow_past h = rw (eq-eqb (start % 4096) 0 h₁, le-leb 1 count h₂, lt-leb (start + 4096 * count) (2 ^ 32) (omega arith))
-
-      pub narrow_end_lem : start ≤ 2 ^ 32 → leb count ((2 ^ 32 - start) / 4096) ≡ allowed_narrow start count
-      unfolding allowed_narrow
-      narrow_end_lem h =
-          rw (eq-eqb (start % 4096) 0 h₁, le-leb 1 count h₂)
-          (same_leb count ((2 ^ 32 - start) / 4096) (start + 4096 * count) (2 ^ 32) (λ x. omega (arith, x)) (λ x. omega (arith, x)))
 
 -- ---- what an allowed range keeps to
 

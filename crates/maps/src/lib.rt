@@ -95,52 +95,39 @@ fn map_in(
 }
 
 // Can a range of an address space be mapped?
+#[tactic(auto, unfolding(crate::specs::MapOf::allowed))]
 fn is_allowed(mode: PagingMode, start: u64, pages: u64) -> bool
     ensures { result ≡ allowed mode start pages }
 {
     match mode {
         PagingMode::FourLevel => is_allowed_wide(start, pages),
-        PagingMode::Plain => is_allowed_narrow(start, pages),
-        PagingMode::Pae(_) => is_allowed_narrow(start, pages),
+        PagingMode::Plain | PagingMode::Pae(_) => is_allowed_narrow(start, pages),
     }
 }
 
 // Whole pages, at least one, that end at or below 2^32.
+#[tactic(auto, unfolding(crate::specs::MapOf::allowed_narrow))]
 fn is_allowed_narrow(start: u64, pages: u64) -> bool
     ensures { result ≡ allowed_narrow start pages }
 {
-    if start % PAGE_BYTES != 0 {
-        return false;
-    }
-    if pages < 1 {
-        return false;
-    }
-    if NARROW_END < start {
-        return false;
-    }
-    pages <= (NARROW_END - start) / PAGE_BYTES
+    start % PAGE_BYTES == 0
+        && 1 <= pages
+        && start <= NARROW_END
+        && pages <= (NARROW_END - start) / PAGE_BYTES
 }
 
 // 1 to 2^20 whole pages, all canonical and in one half.
+#[tactic(auto, unfolding(crate::specs::MapOf::allowed_wide))]
 fn is_allowed_wide(start: u64, pages: u64) -> bool
     ensures { result ≡ allowed_wide start pages }
 {
-    if start % PAGE_BYTES != 0 {
-        return false;
-    }
-    if pages < 1 {
-        return false;
-    }
-    if map_format::MOST_PAGES < pages {
-        return false;
-    }
-    if start < UPPER_HALF {
-        if LOWER_HALF_END < start {
-            return false;
+    start % PAGE_BYTES == 0
+        && matches!(pages, 1..=map_format::MOST_PAGES)
+        && if start < UPPER_HALF {
+            start <= LOWER_HALF_END && PAGE_BYTES * pages <= LOWER_HALF_END - start
+        } else {
+            PAGE_BYTES * pages - 1 <= TOP_ADDRESS - start
         }
-        return PAGE_BYTES * pages <= LOWER_HALF_END - start;
-    }
-    PAGE_BYTES * pages - 1 <= TOP_ADDRESS - start
 }
 
 // Writes the map, and answers its length; bytes that fall past the buffer's end are counted and not written.
@@ -162,16 +149,14 @@ fn write_map(
     };
     let at = map_format::write_header(out, header);
     let mut builder = Builder {
-        at: at,
+        at,
         code: 0,
         pages: 0,
         first: 0,
     };
-    let mut i = 0;
-    while i < pages {
+    for i in 0..pages {
         let found = resolution::resolve_in(rows, image, pagefile, space, start + PAGE_BYTES * i);
         builder = builder.push(out, mapped_page(found));
-        i += 1;
     }
     builder.finish(out)
 }

@@ -5,7 +5,7 @@ use Rattle.entry.specs.declared.VirtualPage.{VirtualPage}
 use Rattle.walk.specs.Rows.{rows_world}
 use Rattle.walk.proofs.Cycle.{sound_rows}
 use Rattle.maps.proofs.Ranges.{allowed_range, placed_allowed, range_top}
-use Rattle.maps.proofs.Mapping.{mapping_none, mapping_room, mapping_next, mapping_end, map_written, wrote_long}
+use Rattle.maps.proofs.Mapping.{mapping_none, mapping_next, map_written}
 use Rattle.maps.proofs.write_map.Goals as goal
 
 pub write_header-at-requires : goal.write_header-at-requires
@@ -25,12 +25,6 @@ overflow_mul-i c = omega (arith, (allowed_range _ _ _ c.requires.0).most)
 pub overflow_add-start : goal.overflow_add-start
 overflow_add-start c = omega (arith, range_top (allowed_range _ _ _ c.requires.0))
 
-pub push-builder-requires : goal.push-builder-requires
-push-builder-requires c = mapping_room c.loop-i.invariant c.loop-i-test.true
-
-pub overflow_add-i : goal.overflow_add-i
-overflow_add-i c = omega (arith, c.loop-i-test.true, (allowed_range _ _ _ c.requires.0).most)
-
 pub loop-i-preserved : goal.loop-i-preserved
 loop-i-preserved c =
     let sound = sound_rows c.args.rows.now c.args.space c.args.image.now c.args.pagefile.now in
@@ -38,14 +32,6 @@ loop-i-preserved c =
     let page = c.mapped_page.ensures in
     let next = mapping_next c.loop-i.invariant sound c.requires.1 (placed_allowed c.args.space.mode _ _ ∙ c.requires.0) c.loop-i-test.true in
     next _ found _ page _ _ c.push-builder.ensures
-
-pub finish-requires : goal.finish-requires
-finish-requires c = mapping_end c.loop-i.invariant c.loop-i-test.false
-
-pub shape_of-out : goal.shape_of-out
-shape_of-out c =
-    let header = rw c.of_address.ensures at c.write_header-at.ensures in
-    wrote_long (map_written header c.loop-i.invariant c.loop-i-test.false c.finish.ensures)
 
 pub returns : goal.returns
 returns c =

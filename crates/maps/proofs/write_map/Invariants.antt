@@ -1,11 +1,7 @@
 -- The loop keeps `Mapping`: the builder has taken the pages so far; at its end the header, these pages and the open extent are the map.
-use Prim.Native.Nat.{◌-◌}
 use Rattle.walk.specs.Rows.{rows_world}
 use Rattle.maps.proofs.Mapping.{Mapping}
 use Rattle.maps.proofs.write_map.Given as goal
 
 abbrev pub invariant-loop-i : goal.invariant-loop-i
 invariant-loop-i l = Mapping (rows_world l.rows l.space l.image l.pagefile) l.start l.pages l.initial.out l.initial.builder l.i l.out l.builder
-
-abbrev pub decreases-loop-i : goal.decreases-loop-i
-decreases-loop-i l = l.pages - l.i
