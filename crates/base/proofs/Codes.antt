@@ -1,5 +1,6 @@
 -- The codes as stretches of numbers, as `is_code` tests them; and a code is a small number.
 use mathlib.Core.Path.{◌≡◌, refl, sym, ◌∙◌}
+use Rattle.std.proofs.Common.{◌≢◌}
 use mathlib.Core.Bool.{Bool, true, false, ◌&&◌, ◌||◌}
 use mathlib.Core.List.{List, [], ◌∷◌, ◌++◌}
 use Prim.Native.Nat.{ℕ, zero, suc, ◌+◌, ◌<◌, ◌≤◌}
@@ -73,18 +74,18 @@ module _ (c : ℕ) where
   pub code_single : 29 < c → member c singles ≡ is_code c
   code_single h = sym (stretches c ∙ rw (le-leb 1 c (omega arith), le-ltb c 4 (omega arith), le-leb 21 c (omega arith), le-ltb c 30 (omega arith)))
 
-  pub code_first_single : c ≡ 31 → true ≡ is_code c
-  code_first_single h = rw (eq-eqb c 31 h) at (code_single (omega (arith, h)))
+  pub code_31 : c ≡ 31 → true ≡ is_code c
+  code_31 h = rw h (sym (stretches 31))
 
-  pub code_second_single : c ≡ 33 → true ≡ is_code c
-  code_second_single h = rw (ne_eqb c 31 (λ e. omega (arith, e, h)), eq-eqb c 33 h) at (code_single (omega (arith, h)))
-
-  pub code_last_single : 29 < c → (c ≡ 31 → ⊥) → (c ≡ 33 → ⊥) → eqb c 34 ≡ is_code c
-  code_last_single h n k = sym (or_false (eqb c 34)) ∙ (rw (ne_eqb c 31 n, ne_eqb c 33 k) at (code_single h))
+  pub code_33_or_34 : 33 ≤ c → c ≤ 34 → true ≡ is_code c
+  code_33_or_34 h k = go (test c 34)
     where
-      or_false : (b : Bool) → (b || false) ≡ b
-      or_false true = refl
-      or_false false = refl
+      go : Test c 34 → true ≡ is_code c
+      go (below l) = let e : c ≡ 33 = omega arith in rw e (sym (stretches 33))
+      go (above l) = let e : c ≡ 34 = omega arith in rw e (sym (stretches 34))
+
+  pub code_above : 29 < c → c ≢ 31 → c ≢ 33 → c ≢ 34 → false ≡ is_code c
+  code_above h n k m = rw (ne_eqb c 31 n, ne_eqb c 33 k, ne_eqb c 34 m) at (code_single h)
 
   -- it takes one group
   pub code_small : is_code c ≡ true → c < 64
