@@ -1,21 +1,19 @@
 -- A builder that takes pages one by one writes the extents of the pages.
-use Rattle.std.specs.Prelude.{if◌then◌else◌}
+use Rattle.std.specs.Prelude.{Option, None, Some, if◌then◌else◌}
 use mathlib.Core.Path.{◌≡◌, refl, sym, ap, ◌∙◌}
 use mathlib.Core.List.{List, [], ◌∷◌, ◌++◌, append_assoc, append-nil}
 use mathlib.Core.Bool.{Bool, true, false}
 use Prim.Native.Nat.{ℕ, suc, ◌+◌, ◌*◌, ◌^◌, ◌<◌, ◌≤◌}
 use native.Mathlib.Omega.{arith}
-use lib.Dec.{eqb}
 use lib.ListN.{length, length-append}
 use lib.Seq.{sets}
-use borrow.Author.Tests.{ne_eqb}
 use Rattle.base.specs.Overlay.{Wrote}
 use Rattle.base.proofs.Overlay.{sets_append, wrote_then}
 use Rattle.varint.specs.Groups.{encode}
 use Rattle.varint.proofs.Writing.{encode_length}
 use Rattle.map_format.specs.Extents.{has_file_page, page_after, extent, joins, joined, extents_of}
 use Rattle.map_format.specs.Layout.{header_bytes, extent_bytes, extents_bytes}
-use Rattle.map_format.specs.Build.{open_extent, open_bytes, follows_of, after_page, written_for, after_pages, written_for_all, PagesTaken, RoomFor}
+use Rattle.map_format.specs.Build.{open_extent, bytes_of, open_bytes, follows_of, after_page, written_for, after_pages, written_for_all, PagesTaken, RoomFor}
 use Rattle.map_format.specs.declared.Builder.{Builder}
 use Rattle.map_format.specs.declared.Extent.{Extent}
 use Rattle.map_format.specs.declared.Header.{Header}
@@ -24,13 +22,13 @@ use Rattle.map_format.proofs.Pages.{joins_true, joined_joined}
 
 -- no extent is open, and the first will stand at `at`
 abbrev pub empty_at : ℕ → Builder
-empty_at at = record { at = at; code = 0; pages = 0; first = 0 }
+empty_at at = record { at = at; last = None }
 
 abbrev longer : Builder → Builder
-longer b = record { at = b.at; code = b.code; pages = b.pages + 1; first = b.first }
+longer b = let e = open_extent b in record { at = b.at; last = Some (extent e.code (e.pages + 1) e.first) }
 
 abbrev opened : Builder → MappedPage → Builder
-opened b p = record { at = b.at + length (open_bytes b); code = p.code; pages = 1; first = p.file }
+opened b p = record { at = b.at + length (open_bytes b); last = Some (extent p.code 1 p.file) }
 
 -- ---- the builder's place
 page_place : (b : Builder) (p : MappedPage) → (after_page b p).at ≡ b.at + length (written_for b p)
@@ -85,42 +83,38 @@ begins c f n k g (e ∷ es) q = go (joins (extent k 1 g) e.code e.first)
     go true = rw q
     go false = rw q
 
-module _ (b : Builder) (some : b.pages ≡ 0 → ⊥) where
-  follows_open : (p : MappedPage) → follows_of b p ≡ joins (open_extent b) p.code p.file
-  unfolding follows_of
-  follows_open p = rw (ne_eqb b.pages 0 some)
-
-  bytes_open : open_bytes b ≡ extent_bytes (open_extent b)
-  unfolding open_bytes
-  bytes_open = rw (ne_eqb b.pages 0 some)
-
 abbrev whole : Builder → List MappedPage → List ℕ
 whole b ps = written_for_all b ps ++ open_bytes (after_pages b ps)
 
-whole_open : (ps : List MappedPage) (b : Builder) → (b.pages ≡ 0 → ⊥) → whole b ps ≡ extents_bytes (joined b.code b.pages b.first (extents_of ps))
-unfolding joined after_page written_for
-whole_open [] b h = bytes_open b h ∙ sym (append-nil _)
-whole_open (p ∷ ps) b h = append_assoc (written_for b p) (written_for_all (after_page b p) ps) (open_bytes (after_pages (after_page b p) ps)) ∙ go (follows_of b p) refl (λ b' h'. whole_open ps b' h')
+-- the extent e is open
+abbrev open_at : ℕ → Extent → Builder
+open_at at e = record { at = at; last = Some e }
+
+whole_open : (ps : List MappedPage) (at : ℕ) (e : Extent) → whole (open_at at e) ps ≡ extents_bytes (joined e.code e.pages e.first (extents_of ps))
+unfolding joined after_page written_for follows_of open_bytes
+whole_open [] at e = sym (append-nil _)
+whole_open (p ∷ ps) at e =
+    let b = open_at at e in
+    append_assoc (written_for b p) (written_for_all (after_page b p) ps) (open_bytes (after_pages (after_page b p) ps)) ∙ go (joins e p.code p.file) refl (λ k x. whole_open ps k x)
   where
     go : (t : Bool)
-        → follows_of b p ≡ t
-        → ((b' : Builder) → (b'.pages ≡ 0 → ⊥) → whole b' ps ≡ extents_bytes (joined b'.code b'.pages b'.first (extents_of ps)))
-        → written_for b p ++ whole (after_page b p) ps ≡ extents_bytes (joined b.code b.pages b.first (extents_of (p ∷ ps)))
+        → joins e p.code p.file ≡ t
+        → ((k : ℕ) (x : Extent) → whole (open_at k x) ps ≡ extents_bytes (joined x.code x.pages x.first (extents_of ps)))
+        → written_for (open_at at e) p ++ whole (after_page (open_at at e) p) ps ≡ extents_bytes (joined e.code e.pages e.first (extents_of (p ∷ ps)))
     go true q ih =
-        let j = joins_true (open_extent b) p.code p.file (sym (follows_open b h p) ∙ q) in
-        let ec : b.code ≡ p.code = j.0 in
-        let ef : page_after b.code b.pages b.first ≡ p.file = j.1 in
-        rw (q, ← ec, ← ef, joined_joined b.code b.pages b.first 1 (extents_of ps)) (ih (longer b) (omega arith))
+        let j = joins_true e p.code p.file q in
+        let ec : e.code ≡ p.code = j.0 in
+        let ef : page_after e.code e.pages e.first ≡ p.file = j.1 in
+        rw (q, ← ec, ← ef, joined_joined e.code e.pages e.first 1 (extents_of ps)) (ih at (extent e.code (e.pages + 1) e.first))
     go false q ih =
-        let apart : joins (open_extent b) p.code p.file ≡ false = sym (follows_open b h p) ∙ q in
-        rw (q, begins b.code b.first b.pages p.code p.file (extents_of ps) apart)
-        (ap (λ (l : List ℕ). l ++ whole (opened b p) ps) (bytes_open b h) ∙ ap (λ (l : List ℕ). extent_bytes (open_extent b) ++ l) (ih (opened b p) (omega arith)))
+        rw (q, begins e.code e.first e.pages p.code p.file (extents_of ps) q)
+        (ap (λ (l : List ℕ). extent_bytes e ++ l) (ih (at + length (extent_bytes e)) (extent p.code 1 p.file)))
 
 -- from a builder with no extent open
 pub whole_extents : (ps : List MappedPage) (at : ℕ) → whole (empty_at at) ps ≡ extents_bytes (extents_of ps)
 unfolding after_page written_for follows_of open_bytes
 whole_extents [] at = refl
-whole_extents (p ∷ ps) at = whole_open ps (record { at = at + 0; code = p.code; pages = 1; first = p.file }) (omega arith)
+whole_extents (p ∷ ps) at = whole_open ps (at + 0) (extent p.code 1 p.file)
 
 -- all pages after_pages to an empty builder, and its last extent written
 pub taken_finish : {o o' o'' : List ℕ} {at r : ℕ} {b : Builder} {ps : List MappedPage}
@@ -145,11 +139,11 @@ extent_length e = go (has_file_page e.code)
 
 open_length : (b : Builder) → length (open_bytes b) ≤ 18
 unfolding open_bytes
-open_length b = go (eqb b.pages 0)
+open_length b = go b.last
   where
-    go : (t : Bool) → length (if t then [] else extent_bytes (open_extent b)) ≤ 18
-    go true = omega arith
-    go false = extent_length (open_extent b)
+    go : (o : Option Extent) → length (bytes_of o) ≤ 18
+    go None = omega arith
+    go (Some e) = extent_length e
 
 pub room_empty : (at k : ℕ) → at + 18 * k < 2 ^ 61 → k < 2 ^ 39 → RoomFor (empty_at at) k
 room_empty at k h l = record { place = h; pages = omega arith; code = omega arith; first = omega arith }

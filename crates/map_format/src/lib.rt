@@ -4,10 +4,10 @@
 ghost use Rattle.std.specs.Prelude.{◌≡◌, [], ◌∷◌, ◌<◌, ◌^◌};
 ghost use Rattle.base.specs.Overlay.{Wrote};
 ghost use Rattle.varint.specs.Answer.{as_number};
-ghost use Rattle.map_format.specs.Extents.{has_file_page, page_after};
+ghost use Rattle.map_format.specs.Extents.{has_file_page, page_after, joins};
 ghost use Rattle.map_format.specs.Layout.{header_bytes, extent_bytes};
-ghost use Rattle.map_format.specs.Reading.{header_fields, first_from, sound, extent_from};
-ghost use Rattle.map_format.specs.Build.{open_bytes, follows_of, PagesTaken, RoomFor};
+ghost use Rattle.map_format.specs.Reading.{in_half, header_fields, first_from, sound, extent_from};
+ghost use Rattle.map_format.specs.Build.{open_bytes, PagesTaken, RoomFor};
 ghost use Rattle.map_format.specs.Inner.{as_header_read, judged_range, as_extent_read, judged_extent, FieldsInLimits};
 
 use base::{Fault, Refusal};
@@ -41,6 +41,17 @@ pub struct Extent {
     pub first: u64,
 }
 
+impl Extent {
+    // Does a page of this code at this page of the file belong to the extent before it?
+    #[tactic(auto, unfolding(crate::specs::Extents::page_after))]
+    fn joins(self, code: u64, file: u64) -> bool
+        ensures { result ≡ joins self code file }
+    {
+        let pages = if has_file_page(code) { self.pages } else { 0 };
+        self.code == code && self.first.checked_add(pages) == Some(file)
+    }
+}
+
 // The range of a map: its first page and how many pages.
 #[derive(Clone, Copy)]
 pub struct Header {
@@ -60,61 +71,49 @@ pub enum ExtentRead {
     Refused(Fault),
 }
 
-// The open extent, of 0 pages where there is none yet, and the place after what was written.
+// The last extent, still open, if there is one yet, and the place after what was written.
 #[derive(Clone, Copy)]
 pub struct Builder {
     pub at: usize,
-    pub code: u64,
-    pub pages: u64,
-    pub first: u64,
+    pub last: Option<Extent>,
 }
 
 impl Builder {
     // Takes one page: it makes the open extent longer, or the open extent is written and the page opens the next.
-    pub fn push(mut self, out: &mut [u8], page: MappedPage) -> Self
+    #[tactic(auto, unfolding(crate::specs::Build::after_page, crate::specs::Build::written_for))]
+    pub fn push(self, out: &mut [u8], page: MappedPage) -> Self
         requires { RoomFor self 1 }
         ensures { PagesTaken out.old self (page ∷ []) out.new result }
     {
-        if self.follows(page) {
-            self.pages = self.pages + 1;
-            return self;
+        match self.last {
+            Some(e) if e.joins(page.code, page.file) => {
+                let pages = e.pages + 1;
+                Builder {
+                    last: Some(Extent { pages, ..e }),
+                    ..self
+                }
+            }
+            _ => Builder {
+                at: self.finish(out),
+                last: Some(Extent {
+                    code: page.code,
+                    pages: 1,
+                    first: page.file,
+                }),
+            },
         }
-        let at = self.finish(out);
-        self.at = at;
-        self.code = page.code;
-        self.pages = 1;
-        self.first = page.file;
-        self
     }
 
     // Writes the open extent and answers the place after it.
+    #[tactic(auto, unfolding(crate::specs::Build::open_bytes))]
     pub fn finish(self, out: &mut [u8]) -> usize
         requires { RoomFor self 0 }
         ensures { Wrote out.old self.at (open_bytes self) result out.new }
     {
-        if 0 < self.pages {
-            let e = Extent {
-                code: self.code,
-                pages: self.pages,
-                first: self.first,
-            };
-            return write_extent(out, self.at, e);
+        match self.last {
+            Some(e) => write_extent(out, self.at, e),
+            None => self.at,
         }
-        self.at
-    }
-
-    fn follows(self, page: MappedPage) -> bool
-        requires { RoomFor self 0 }
-        ensures { result ≡ follows_of self page }
-    {
-        if self.pages == 0 {
-            return false;
-        }
-        if self.code != page.code {
-            return false;
-        }
-        let next = page_after(self.code, self.pages, self.first);
-        next == page.file
     }
 }
 
@@ -122,13 +121,11 @@ impl Builder {
 pub fn has_file_page(code: u64) -> bool
     ensures { result ≡ has_file_page code }
 {
-    if code == 1 {
-        return true;
-    }
-    code == 2
+    matches!(code, 1 | 2)
 }
 
 // The file page that is `pages` pages after an extent's first.
+#[tactic(auto, unfolding(crate::specs::Extents::page_after))]
 pub fn page_after(code: u64, pages: u64, first: u64) -> u64
     requires { (pages < 2 ^ 40) × (first < 2 ^ 40) }
     ensures { result ≡ page_after code pages first }
@@ -145,21 +142,21 @@ pub fn write_header(out: &mut [u8], header: Header) -> usize
     requires { (header.start.0 < 2 ^ 36) × (header.count < 2 ^ 36) }
     ensures { Wrote out.old 0 (header_bytes header) result out.new }
 {
-    let a = varint::write_number(out, 0, varint::EDITION);
-    let b = varint::write_number(out, a, header.start.number());
-    varint::write_number(out, b, header.count)
+    let at = varint::write_number(out, 0, varint::EDITION);
+    let at = varint::write_number(out, at, header.start.number());
+    varint::write_number(out, at, header.count)
 }
 
 fn write_extent(out: &mut [u8], at: usize, e: Extent) -> usize
     requires { (at < 2 ^ 62) × ((e.code < 2 ^ 40) × ((e.pages < 2 ^ 40) × (e.first < 2 ^ 40))) }
     ensures { Wrote out.old at (extent_bytes e) result out.new }
 {
-    let a = varint::write_number(out, at, e.code);
-    let b = varint::write_number(out, a, e.pages);
+    let at = varint::write_number(out, at, e.code);
+    let at = varint::write_number(out, at, e.pages);
     if has_file_page(e.code) {
-        varint::write_number(out, b, e.first)
+        varint::write_number(out, at, e.first)
     } else {
-        b
+        at
     }
 }
 
@@ -183,27 +180,25 @@ pub fn read_header(s: &[u8]) -> HeaderRead
 }
 
 fn judge_range(header: Header, next: usize) -> HeaderRead
-    requires { header.start.0 < 2 ^ 36 }
     ensures { result ≡ judged_range header next }
 {
-    let start = header.start.number();
-    let count = header.count;
-    if count < 1 {
-        return HeaderRead::Refused(Fault::unplaced(Refusal::OutOfLimits));
-    }
-    if MOST_PAGES < count {
-        return HeaderRead::Refused(Fault::unplaced(Refusal::OutOfLimits));
-    }
-    if start < UPPER_HALF_PAGE {
-        if UPPER_HALF_PAGE < start + count {
-            return HeaderRead::Refused(Fault::unplaced(Refusal::OutOfLimits));
-        }
+    if is_in_half(header) {
         return HeaderRead::Fields(header, next);
     }
-    if VIRTUAL_PAGES < start + count {
-        return HeaderRead::Refused(Fault::unplaced(Refusal::OutOfLimits));
-    }
-    HeaderRead::Fields(header, next)
+    HeaderRead::Refused(Fault::unplaced(Refusal::OutOfLimits))
+}
+
+// 1 to 2^20 pages in one half?
+fn is_in_half(header: Header) -> bool
+    ensures { result ≡ in_half header.start header.count }
+{
+    let start = header.start.number();
+    let end = if start < UPPER_HALF_PAGE {
+        UPPER_HALF_PAGE
+    } else {
+        VIRTUAL_PAGES
+    };
+    (1..=MOST_PAGES).contains(&header.count) && start.saturating_add(header.count) <= end
 }
 
 // One extent after `prev`, with `left` pages left.
@@ -252,24 +247,12 @@ fn judge_extent(left: u64, prev: Extent, e: Extent, next: usize) -> ExtentRead
 }
 
 // Do the rules of an extent hold? `prev` with 0 pages stands for none.
+#[tactic(auto, unfolding(crate::specs::Reading::sound))]
 fn is_sound(left: u64, prev: Extent, e: Extent) -> bool
-    requires { FieldsInLimits prev × FieldsInLimits e }
     ensures { result ≡ sound left prev e }
 {
-    if e.pages < 1 {
-        return false;
-    }
-    if left < e.pages {
-        return false;
-    }
-    if FILE_PAGES < e.first + e.pages {
-        return false;
-    }
-    if prev.pages < 1 {
-        return true;
-    }
-    if prev.code != e.code {
-        return true;
-    }
-    page_after(prev.code, prev.pages, prev.first) != e.first
+    0 < e.pages
+        && e.pages <= left
+        && (!has_file_page(e.code) || e.first.saturating_add(e.pages) <= FILE_PAGES)
+        && !(0 < prev.pages && prev.joins(e.code, e.first))
 }

@@ -148,12 +148,7 @@ fn write_map(
         count: pages,
     };
     let at = map_format::write_header(out, header);
-    let mut builder = Builder {
-        at,
-        code: 0,
-        pages: 0,
-        first: 0,
-    };
+    let mut builder = Builder { at, last: None };
     for i in 0..pages {
         let found = resolution::resolve_in(rows, image, pagefile, space, start + PAGE_BYTES * i);
         builder = builder.push(out, mapped_page(found));

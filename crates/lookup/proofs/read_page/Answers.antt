@@ -7,9 +7,6 @@ use Rattle.lookup.proofs.read_page.Goals as goal
 pub loop-left-init : goal.loop-left-init
 loop-left-init c = let given = c.args in starts given.s.now given.from given.count given.k
 
-pub read_extent-requires : goal.read_extent-requires
-read_extent-requires c = c.loop-left.invariant.limits
-
 pub returns-in-Refused : goal.returns-in-Refused
 returns-in-Refused c =
     let no_extent = extent_refused _ _ _ c.read_extent.ensures c.in-Refused.is in

@@ -1,11 +1,8 @@
 -- Each return cites the law for how far the reading came: the edition and the numbers that were read, and the refusal that ended it.
-use Rattle.varint.proofs.Fields.{value_got, refused_bad, field_below}
+use Rattle.varint.proofs.Fields.{value_got, refused_bad}
 use Rattle.varint.proofs.Edition as edition
 use Rattle.map_format.proofs.HeaderFields.{no_fields, all_fields}
 use Rattle.map_format.proofs.read_header.Goals as goal
-
-pub judge_range-requires : goal.judge_range-requires
-judge_range-requires c = rw c.numbered-start.ensures (field_below _ _ _ _ (value_got _ _ _ _ c.read_field.ensures c.in-Value-read_field.is))
 
 pub returns-in-Refused : goal.returns-in-Refused
 returns-in-Refused c = rw (no_fields _ _ (edition.no_fields _ _ (refused_bad _ _ _ c.read_edition.ensures c.in-Refused.is)))
