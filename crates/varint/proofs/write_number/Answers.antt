@@ -4,13 +4,13 @@ use Rattle.varint.proofs.Writing.{near, again, ended}
 use Rattle.varint.proofs.write_number.Goals as goal
 
 pub overflow_add-i : goal.overflow_add-i
-overflow_add-i c = omega (arith, near _ _ _ _ _ _ c.loop-m.invariant, c.requires)
+overflow_add-i c = omega (arith, near _ _ _ _ _ _ c.loop-left.invariant, c.requires)
 
-pub loop-m-preserved : goal.loop-m-preserved
-loop-m-preserved c = again _ _ _ _ _ _ c.loop-m.invariant c.loop-m-test.true _ c.put_byte.ensures
+pub loop-left-preserved : goal.loop-left-preserved
+loop-left-preserved c = again _ _ _ _ _ _ c.loop-left.invariant c.loop-left-test.true _ c.put_byte.ensures
 
 pub overflow_add-result : goal.overflow_add-result
-overflow_add-result c = omega (arith, near _ _ _ _ _ _ c.loop-m.invariant, c.requires)
+overflow_add-result c = omega (arith, near _ _ _ _ _ _ c.loop-left.invariant, c.requires)
 
 pub returns : goal.returns
-returns c = ended _ _ _ _ _ _ c.loop-m.invariant c.loop-m-test.false _ c.put_byte-2.ensures
+returns c = ended _ _ _ _ _ _ c.loop-left.invariant c.loop-left-test.false _ c.put_byte-2.ensures

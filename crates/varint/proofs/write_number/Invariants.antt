@@ -2,8 +2,8 @@
 use Rattle.varint.proofs.Writing.{Going}
 use Rattle.varint.proofs.write_number.Given as goal
 
-abbrev pub invariant-loop-m : goal.invariant-loop-m
-invariant-loop-m l = Going l.initial.out l.at l.n l.out l.m l.i
+abbrev pub invariant-loop-left : goal.invariant-loop-left
+invariant-loop-left l = Going l.initial.out l.at l.n l.out l.left l.i
 
-abbrev pub decreases-loop-m : goal.decreases-loop-m
-decreases-loop-m l = l.m
+abbrev pub decreases-loop-left : goal.decreases-loop-left
+decreases-loop-left l = l.left
