@@ -7,10 +7,10 @@ pub overflow_add-i : goal.overflow_add-i
 overflow_add-i c = omega (arith, near _ _ _ _ _ _ c.loop-left.invariant, c.requires)
 
 pub loop-left-preserved : goal.loop-left-preserved
-loop-left-preserved c = again _ _ _ _ _ _ c.loop-left.invariant c.loop-left-test.true _ c.put_byte.ensures
+loop-left-preserved c = again _ _ _ _ _ _ c.loop-left.invariant c.loop-left-test.true _ c.put.ensures
 
 pub overflow_add-result : goal.overflow_add-result
 overflow_add-result c = omega (arith, near _ _ _ _ _ _ c.loop-left.invariant, c.requires)
 
 pub returns : goal.returns
-returns c = ended _ _ _ _ _ _ c.loop-left.invariant c.loop-left-test.false _ c.put_byte-2.ensures
+returns c = ended _ _ _ _ _ _ c.loop-left.invariant c.loop-left-test.false _ c.put-2.ensures
