@@ -14,9 +14,8 @@ use Rattle.base.proofs.Test.{both_true}
 use Rattle.base.specs.declared.Refusal.TheVariants.{BadExtent}
 use Rattle.varint.specs.Reader.{Read, got, refused, after, return}
 use Rattle.varint.specs.Groups.{number}
-use Rattle.varint.specs.Answer.{as_number}
-use Rattle.varint.specs.declared.Number.{Number}
-use Rattle.varint.specs.declared.Number.TheVariants.{Value}
+use Rattle.varint.specs.Answer.{as_result}
+use Rattle.std.specs.Prelude.{Result, Ok}
 use Rattle.varint.proofs.Reader.{came, held, returned}
 use Rattle.varint.proofs.Fields.{field_below}
 use Rattle.map_format.specs.Extents.{has_file_page, extent}
@@ -36,10 +35,10 @@ judging s e next false = refl
 -- ---- the first page of the file
 
 module _ (s : List ℕ) (at code : ℕ) where
-  pub no_field : has_file_page code ≡ false → Value 0 at ≡ as_number (first_from code s at)
+  pub no_field : has_file_page code ≡ false → Ok (0, at) ≡ as_result (first_from code s at)
   no_field h = rw h
 
-  pub a_field : has_file_page code ≡ true → (v : Number) → v ≡ as_number (number s at) → v ≡ as_number (first_from code s at)
+  pub a_field : has_file_page code ≡ true → (v : Result (ℕ × ℕ) Fault) → v ≡ as_result (number s at) → v ≡ as_result (first_from code s at)
   a_field h v e = rw h e
 
   first_in_limits : (first next : ℕ) → first_from code s at ≡ got first next → first < 2 ^ 36

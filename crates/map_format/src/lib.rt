@@ -3,7 +3,7 @@
 
 ghost use Rattle.std.specs.Prelude.{◌≡◌, [], ◌∷◌, ◌<◌, ◌^◌};
 ghost use Rattle.base.specs.Overlay.{Wrote};
-ghost use Rattle.varint.specs.Answer.{as_number};
+ghost use Rattle.varint.specs.Answer.{as_result};
 ghost use Rattle.map_format.specs.Extents.{has_file_page, page_after, joins};
 ghost use Rattle.map_format.specs.Layout.{header_bytes, extent_bytes};
 ghost use Rattle.map_format.specs.Reading.{in_half, header_fields, first_from, sound, extent_from};
@@ -12,7 +12,6 @@ ghost use Rattle.map_format.specs.Inner.{as_header_read, judged_range, as_extent
 
 use base::{Fault, Refusal};
 use entry::VirtualPage;
-use varint::Number;
 
 // 01 "Maps": the most pages of a range.
 pub const MOST_PAGES: u64 = 0x100000;
@@ -165,12 +164,12 @@ pub fn read_header(s: &[u8]) -> HeaderRead
     ensures { result ≡ as_header_read (header_fields s.now 0) }
 {
     match varint::read_edition(s) {
-        Number::Refused(fault) => HeaderRead::Refused(fault),
-        Number::Value(_, a) => match varint::read_field(s, a) {
-            Number::Refused(fault) => HeaderRead::Refused(fault),
-            Number::Value(first, b) => match varint::read_field(s, b) {
-                Number::Refused(fault) => HeaderRead::Refused(fault),
-                Number::Value(count, next) => {
+        Err(fault) => HeaderRead::Refused(fault),
+        Ok((_, a)) => match varint::read_field(s, a) {
+            Err(fault) => HeaderRead::Refused(fault),
+            Ok((first, b)) => match varint::read_field(s, b) {
+                Err(fault) => HeaderRead::Refused(fault),
+                Ok((count, next)) => {
                     let start = VirtualPage::numbered(first);
                     judge_range(Header { start, count }, next)
                 }
@@ -207,16 +206,16 @@ pub fn read_extent(s: &[u8], at: usize, left: u64, prev: Extent) -> ExtentRead
     ensures { result ≡ as_extent_read (extent_from left prev s.now at) }
 {
     match varint::read_field(s, at) {
-        Number::Refused(fault) => ExtentRead::Refused(fault),
-        Number::Value(code, a) => {
+        Err(fault) => ExtentRead::Refused(fault),
+        Ok((code, a)) => {
             if !base::is_code(code) {
                 return ExtentRead::Refused(Fault::unplaced(Refusal::BadExtent));
             }
             match varint::read_field(s, a) {
-                Number::Refused(fault) => ExtentRead::Refused(fault),
-                Number::Value(pages, b) => match read_first(s, b, code) {
-                    Number::Refused(fault) => ExtentRead::Refused(fault),
-                    Number::Value(first, next) => {
+                Err(fault) => ExtentRead::Refused(fault),
+                Ok((pages, b)) => match read_first(s, b, code) {
+                    Err(fault) => ExtentRead::Refused(fault),
+                    Ok((first, next)) => {
                         let e = Extent { code, pages, first };
                         judge_extent(left, prev, e, next)
                     }
@@ -226,11 +225,11 @@ pub fn read_extent(s: &[u8], at: usize, left: u64, prev: Extent) -> ExtentRead
     }
 }
 
-fn read_first(s: &[u8], at: usize, code: u64) -> Number
-    ensures { result ≡ as_number (first_from code s.now at) }
+fn read_first(s: &[u8], at: usize, code: u64) -> Result<(u64, usize), Fault>
+    ensures { result ≡ as_result (first_from code s.now at) }
 {
     if !has_file_page(code) {
-        return Number::Value(0, at);
+        return Ok((0, at));
     }
     varint::read_field(s, at)
 }

@@ -7,7 +7,6 @@ ghost use Rattle.one_run_sheet.specs.OneRun.{Told, RestTold};
 
 use entry::Frame;
 use sheet::Run;
-use varint::ShortNumber;
 
 // 01's limit of a page count.
 const TOP_PAGE: u64 = 0x1000000000;
@@ -24,16 +23,16 @@ pub fn read_one_run(s: &[u8], image: u64, pagefile: u64) -> OneRun
     ensures { Told (sheet_of s.now image pagefile) (length s.now) result }
 {
     match varint::read_short(s, 0) {
-        ShortNumber::NotShort => OneRun::Other,
-        ShortNumber::Value(edition, a) => {
+        None => OneRun::Other,
+        Some((edition, a)) => {
             if edition != varint::EDITION {
                 return OneRun::Other;
             }
             match varint::read_short(s, a) {
-                ShortNumber::NotShort => OneRun::Other,
-                ShortNumber::Value(directory, b) => match varint::read_short(s, b) {
-                    ShortNumber::NotShort => OneRun::Other,
-                    ShortNumber::Value(count, next) => {
+                None => OneRun::Other,
+                Some((directory, b)) => match varint::read_short(s, b) {
+                    None => OneRun::Other,
+                    Some((count, next)) => {
                         if count != 1 {
                             return OneRun::Other;
                         }
@@ -50,10 +49,10 @@ fn read_rest(s: &[u8], at: usize, directory: u64, image: u64, pagefile: u64) -> 
     ensures { RestTold s.now at directory image pagefile result }
 {
     match varint::read_short(s, at) {
-        ShortNumber::NotShort => OneRun::Other,
-        ShortNumber::Value(gap, a) => match varint::read_short(s, a) {
-            ShortNumber::NotShort => OneRun::Other,
-            ShortNumber::Value(pages, end) => {
+        None => OneRun::Other,
+        Some((gap, a)) => match varint::read_short(s, a) {
+            None => OneRun::Other,
+            Some((pages, end)) => {
                 if end != s.len() {
                     return OneRun::Other;
                 }

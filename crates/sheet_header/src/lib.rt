@@ -10,7 +10,6 @@ ghost use Rattle.sheet.specs.Inner.{mode_read, header_read, few_runs, few_count,
 use base::{Fault, Refusal};
 use entry::{Frame, PagingMode};
 use sheet::{AddressSpace, Header, HeaderRead, ModeRead, PAE, PLAIN};
-use varint::Number;
 
 // 02 order 7: the edition with a paging mode.
 const SECOND_EDITION: u64 = 2;
@@ -26,16 +25,16 @@ pub fn has_few_runs(sheet: &[u8]) -> bool
     ensures { result ≡ few_runs (header sheet.now 0) }
 {
     match varint::read_field(sheet, 0) {
-        Number::Refused(_) => true,
-        Number::Value(edition, a) => {
+        Err(_) => true,
+        Ok((edition, a)) => {
             if edition != varint::EDITION {
                 return second_has_few(sheet, edition, a);
             }
             match varint::read_field(sheet, a) {
-                Number::Refused(_) => true,
-                Number::Value(_, b) => match varint::read_field(sheet, b) {
-                    Number::Refused(_) => true,
-                    Number::Value(count, _) => is_few(count),
+                Err(_) => true,
+                Ok((_, b)) => match varint::read_field(sheet, b) {
+                    Err(_) => true,
+                    Ok((count, _)) => is_few(count),
                 },
             }
         }
@@ -58,12 +57,12 @@ fn second_has_few(sheet: &[u8], edition: u64, at: usize) -> bool
         return true;
     }
     match varint::read_field(sheet, at) {
-        Number::Refused(_) => true,
-        Number::Value(_, a) => match read_mode(sheet, a) {
+        Err(_) => true,
+        Ok((_, a)) => match read_mode(sheet, a) {
             ModeRead::Refused(_) => true,
             ModeRead::Mode(_, b) => match varint::read_field(sheet, b) {
-                Number::Refused(_) => true,
-                Number::Value(runs, _) => is_few(runs),
+                Err(_) => true,
+                Ok((runs, _)) => is_few(runs),
             },
         },
     }
@@ -73,16 +72,16 @@ pub fn read_header(s: &[u8]) -> HeaderRead
     ensures { result ≡ header_read (header s.now 0) }
 {
     match varint::read_field(s, 0) {
-        Number::Refused(fault) => HeaderRead::Refused(fault),
-        Number::Value(edition, a) => {
+        Err(fault) => HeaderRead::Refused(fault),
+        Ok((edition, a)) => {
             if edition != varint::EDITION {
                 return second_header(s, edition, a);
             }
             match varint::read_field(s, a) {
-                Number::Refused(fault) => HeaderRead::Refused(fault),
-                Number::Value(directory, b) => match varint::read_field(s, b) {
-                    Number::Refused(fault) => HeaderRead::Refused(fault),
-                    Number::Value(count, next) => {
+                Err(fault) => HeaderRead::Refused(fault),
+                Ok((directory, b)) => match varint::read_field(s, b) {
+                    Err(fault) => HeaderRead::Refused(fault),
+                    Ok((count, next)) => {
                         header_fields(directory, PagingMode::FourLevel, count, next)
                     }
                 },
@@ -100,12 +99,12 @@ fn second_header(s: &[u8], edition: u64, at: usize) -> HeaderRead
         return HeaderRead::Refused(Fault::unplaced(Refusal::OutOfLimits));
     }
     match varint::read_field(s, at) {
-        Number::Refused(fault) => HeaderRead::Refused(fault),
-        Number::Value(directory, a) => match read_mode(s, a) {
+        Err(fault) => HeaderRead::Refused(fault),
+        Ok((directory, a)) => match read_mode(s, a) {
             ModeRead::Refused(fault) => HeaderRead::Refused(fault),
             ModeRead::Mode(mode, b) => match varint::read_field(s, b) {
-                Number::Refused(fault) => HeaderRead::Refused(fault),
-                Number::Value(count, next) => header_fields(directory, mode, count, next),
+                Err(fault) => HeaderRead::Refused(fault),
+                Ok((count, next)) => header_fields(directory, mode, count, next),
             },
         },
     }
@@ -116,8 +115,8 @@ fn read_mode(s: &[u8], at: usize) -> ModeRead
     ensures { result ≡ mode_read (mode_fields s.now at) }
 {
     match varint::read_field(s, at) {
-        Number::Refused(fault) => ModeRead::Refused(fault),
-        Number::Value(mode, a) => {
+        Err(fault) => ModeRead::Refused(fault),
+        Ok((mode, a)) => {
             if mode < PLAIN {
                 return ModeRead::Refused(Fault::unplaced(Refusal::OutOfLimits));
             }
@@ -125,8 +124,8 @@ fn read_mode(s: &[u8], at: usize) -> ModeRead
                 return ModeRead::Refused(Fault::unplaced(Refusal::OutOfLimits));
             }
             match varint::read_field(s, a) {
-                Number::Refused(fault) => ModeRead::Refused(fault),
-                Number::Value(place, next) => {
+                Err(fault) => ModeRead::Refused(fault),
+                Ok((place, next)) => {
                     if !sheet::is_place(mode, place) {
                         return ModeRead::Refused(Fault::unplaced(Refusal::OutOfLimits));
                     }

@@ -8,7 +8,6 @@ ghost use Rattle.sheet.specs.Inner.{run_read, sound_run, run_of, with_row, RunsL
 use base::{Fault, Refusal};
 use entry::Frame;
 use sheet::{Run, RunRead, RunsRead};
-use varint::{Number, ShortNumber};
 
 // 01: the page at which the last run ends at the latest.
 const TOP_PAGE: u64 = 0x1000000000;
@@ -29,11 +28,11 @@ fn read_run(s: &[u8], at: usize, least: u64, end: u64) -> RunRead
         return read_long_run(bytes, at, least, end);
     }
     match varint::read_short(s, at + 1) {
-        ShortNumber::NotShort => {
+        None => {
             let bytes = s;
             read_long_run(bytes, at, least, end)
         }
-        ShortNumber::Value(pages, next) => run_of(gap, pages, least, end, next),
+        Some((pages, next)) => run_of(gap, pages, least, end, next),
     }
 }
 
@@ -43,10 +42,10 @@ fn read_long_run(s: &[u8], at: usize, least: u64, end: u64) -> RunRead
     ensures { result ≡ run_read (run_from least end s.now at) }
 {
     match varint::read_field(s, at) {
-        Number::Refused(fault) => RunRead::Refused(fault),
-        Number::Value(gap, a) => match varint::read_field(s, a) {
-            Number::Refused(fault) => RunRead::Refused(fault),
-            Number::Value(pages, next) => run_of(gap, pages, least, end, next),
+        Err(fault) => RunRead::Refused(fault),
+        Ok((gap, a)) => match varint::read_field(s, a) {
+            Err(fault) => RunRead::Refused(fault),
+            Ok((pages, next)) => run_of(gap, pages, least, end, next),
         },
     }
 }

@@ -11,29 +11,29 @@ returns-then-edition-ne-SECOND_EDITION c =
     let given = c.requires in
     rw (c.unplaced.ensures, other_edition _ _ _ given.0 given.1 (λ two. omega (arith, two)))
 
+pub returns-in-Err : goal.returns-in-Err
+returns-in-Err c =
+    let two : c.args.edition ≡ 2 = omega arith in
+    rw (no_directory _ _ _ c.requires.0 (second_known _ two) _ (refused_bad _ _ _ c.read_field.ensures c.in-Err.is))
+
 pub returns-in-Refused : goal.returns-in-Refused
 returns-in-Refused c =
     let two : c.args.edition ≡ 2 = omega arith in
-    rw (no_directory _ _ _ c.requires.0 (second_known _ two) _ (refused_bad _ _ _ c.read_field.ensures c.in-Refused.is))
-
-pub returns-in-Refused-read_mode : goal.returns-in-Refused-read_mode
-returns-in-Refused-read_mode c =
-    let two : c.args.edition ≡ 2 = omega arith in
-    let directory = value_got _ _ _ _ c.read_field.ensures c.in-Value.is in
-    let no = mode_bad _ _ _ c.read_mode.ensures c.in-Refused-read_mode.is in
+    let directory = value_got _ _ _ _ c.read_field.ensures c.in-Ok.is in
+    let no = mode_bad _ _ _ c.read_mode.ensures c.in-Refused.is in
     rw (no_mode _ _ _ c.requires.0 (second_known _ two) _ _ directory _ (second_mode _ _ _ _ two no))
 
-pub returns-in-Refused-read_field : goal.returns-in-Refused-read_field
-returns-in-Refused-read_field c =
+pub returns-in-Err-read_field : goal.returns-in-Err-read_field
+returns-in-Err-read_field c =
     let two : c.args.edition ≡ 2 = omega arith in
-    let directory = value_got _ _ _ _ c.read_field.ensures c.in-Value.is in
+    let directory = value_got _ _ _ _ c.read_field.ensures c.in-Ok.is in
     let mode = mode_got _ _ _ _ c.read_mode.ensures c.in-Mode.is in
-    rw (no_count _ _ _ c.requires.0 (second_known _ two) _ _ directory _ _ (second_mode _ _ _ _ two mode) _ (refused_bad _ _ _ c.read_field-in-Mode.ensures c.in-Refused-read_field.is))
+    rw (no_count _ _ _ c.requires.0 (second_known _ two) _ _ directory _ _ (second_mode _ _ _ _ two mode) _ (refused_bad _ _ _ c.read_field-in-Mode.ensures c.in-Err-read_field.is))
 
-pub returns-in-Value-read_field : goal.returns-in-Value-read_field
-returns-in-Value-read_field c =
+pub returns-in-Ok-read_field : goal.returns-in-Ok-read_field
+returns-in-Ok-read_field c =
     let two : c.args.edition ≡ 2 = omega arith in
-    let directory = value_got _ _ _ _ c.read_field.ensures c.in-Value.is in
+    let directory = value_got _ _ _ _ c.read_field.ensures c.in-Ok.is in
     let mode = mode_got _ _ _ _ c.read_mode.ensures c.in-Mode.is in
-    let count = value_got _ _ _ _ c.read_field-in-Mode.ensures c.in-Value-read_field.is in
+    let count = value_got _ _ _ _ c.read_field-in-Mode.ensures c.in-Ok-read_field.is in
     rw c.header_fields.ensures (all_fields _ _ _ c.requires.0 (second_known _ two) _ _ directory _ _ (second_mode _ _ _ _ two mode) _ _ count)

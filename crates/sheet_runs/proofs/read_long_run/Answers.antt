@@ -5,18 +5,18 @@ use Rattle.sheet_runs.proofs.read_long_run.Goals as goal
 
 pub run_of-requires : goal.run_of-requires
 run_of-requires c = (
-  field_below _ _ _ _ (value_got _ _ _ _ c.read_field.ensures c.in-Value.is),
-  (field_below _ _ _ _ (value_got _ _ _ _ c.read_field-in-Value.ensures c.in-Value-read_field.is), c.requires),
+  field_below _ _ _ _ (value_got _ _ _ _ c.read_field.ensures c.in-Ok.is),
+  (field_below _ _ _ _ (value_got _ _ _ _ c.read_field-in-Ok.ensures c.in-Ok-read_field.is), c.requires),
 )
 
-pub returns-in-Refused : goal.returns-in-Refused
-returns-in-Refused c = rw (no_gap _ _ _ _ _ (refused_bad _ _ _ c.read_field.ensures c.in-Refused.is))
+pub returns-in-Err : goal.returns-in-Err
+returns-in-Err c = rw (no_gap _ _ _ _ _ (refused_bad _ _ _ c.read_field.ensures c.in-Err.is))
 
-pub returns-in-Refused-read_field : goal.returns-in-Refused-read_field
-returns-in-Refused-read_field c = rw (no_pages _ _ _ _ _ _ (value_got _ _ _ _ c.read_field.ensures c.in-Value.is) _ (refused_bad _ _ _ c.read_field-in-Value.ensures c.in-Refused-read_field.is))
+pub returns-in-Err-read_field : goal.returns-in-Err-read_field
+returns-in-Err-read_field c = rw (no_pages _ _ _ _ _ _ (value_got _ _ _ _ c.read_field.ensures c.in-Ok.is) _ (refused_bad _ _ _ c.read_field-in-Ok.ensures c.in-Err-read_field.is))
 
-pub returns-in-Value-read_field : goal.returns-in-Value-read_field
-returns-in-Value-read_field c =
+pub returns-in-Ok-read_field : goal.returns-in-Ok-read_field
+returns-in-Ok-read_field c =
     rw c.run_of.ensures
-    (by_numbers _ _ _ _ _ _ (value_got _ _ _ _ c.read_field.ensures c.in-Value.is) _ _
-    (value_got _ _ _ _ c.read_field-in-Value.ensures c.in-Value-read_field.is))
+    (by_numbers _ _ _ _ _ _ (value_got _ _ _ _ c.read_field.ensures c.in-Ok.is) _ _
+    (value_got _ _ _ _ c.read_field-in-Ok.ensures c.in-Ok-read_field.is))
