@@ -1,4 +1,3 @@
-pub mod Address
 pub mod ManyExtents
 pub mod WholeMap
 pub mod Answers

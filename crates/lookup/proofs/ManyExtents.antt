@@ -1,5 +1,5 @@
 -- The loop over the extents: what is left to read, with the answer so far, gives the answer of the whole.
-use Rattle.std.specs.Prelude.{if◌then◌else◌}
+use Rattle.std.specs.Prelude.{Result, Ok, Err, if◌then◌else◌}
 use mathlib.Core.Path.{◌≡◌, refl, sym, ap, ◌∙◌}
 use mathlib.Core.List.{List, [], ◌∷◌}
 use mathlib.Core.Bool.{Bool, true, false}
@@ -21,23 +21,6 @@ use Rattle.map_format.specs.declared.Extent.{Extent}
 use Rattle.map_format.specs.declared.MappedPage.{MappedPage}
 use Rattle.map_format.proofs.OneExtent.{WithPagesLeft, extent_keeps}
 use Rattle.lookup.specs.Inner.{note_of, page_of_read}
-use Rattle.lookup.specs.declared.PageRead.{PageRead}
-use Rattle.lookup.specs.declared.PageRead.TheVariants.{Answered, Refused}
-
--- ---- the answer so far, test by test
-
-module _ (old : MappedPage) (done k : ℕ) (e : Extent) where
-  pub before_it : k < done → old ≡ note_of old done k e
-  unfolding note_of
-  before_it h = rw (lt-leb done k h)
-
-  pub after_it : done ≤ k → e.pages ≤ k - done → old ≡ note_of old done k e
-  unfolding note_of
-  after_it h l = rw (le-leb done k h, le-ltb (k - done) e.pages l)
-
-  pub in_it : done ≤ k → k - done < e.pages → (a : ℕ) → a ≡ page_after e.code (k - done) e.first → mapped_page e.code a ≡ note_of old done k e
-  unfolding note_of
-  in_it h l a w = rw (le-leb done k h, lt-ltb (k - done) e.pages l, w)
 
 -- ---- the answer of the extents that are left
 
@@ -45,9 +28,9 @@ module _ (old : MappedPage) (done k : ℕ) (e : Extent) where
 abbrev answer_after : MappedPage → ℕ → ℕ → List Extent → MappedPage
 answer_after old done k es = if ltb k done then old else page_at es (k - done)
 
-abbrev read_after : List ℕ → MappedPage → ℕ → ℕ → Read (List Extent) → PageRead
-read_after s old done k (got es at) = if eqb at (length s) then Answered (answer_after old done k es) else Refused (unplaced TrailingBytes)
-read_after s old done k (refused r) = Refused r
+abbrev read_after : List ℕ → MappedPage → ℕ → ℕ → Read (List Extent) → Result MappedPage Fault
+read_after s old done k (got es at) = if eqb at (length s) then Ok (answer_after old done k es) else Err (unplaced TrailingBytes)
+read_after s old done k (refused r) = Err r
 
 page_none : (s : List ℕ) (old : MappedPage) (k : ℕ) (d : Read (List Extent)) → page_of_read s k d ≡ read_after s old 0 k d
 page_none s old k (got es at) = rw (le-ltb k 0 (omega arith), sub-zero k)
@@ -67,7 +50,7 @@ answer_more old done k e es = go (test k done) (test (k - done) e.pages)
 -- one extent more is noted, or still to come
 page_more : (s : List ℕ) (old : MappedPage) (done k : ℕ) (e : Extent) (d : Read (List Extent))
     → read_after s old done k (after s (λ (es : List Extent). return (e ∷ es)) d) ≡ read_after s (note_of old done k e) (done + e.pages) k d
-page_more s old done k e (got es at) = ap (λ (p : MappedPage). if eqb at (length s) then Answered p else Refused (unplaced TrailingBytes)) (answer_more old done k e es)
+page_more s old done k e (got es at) = ap (λ (p : MappedPage). if eqb at (length s) then Ok p else Err (unplaced TrailingBytes)) (answer_more old done k e es)
 page_more s old done k e (refused r) = refl
 
 after_below : (left : ℕ) (e : Extent) (n : ℕ) → WithPagesLeft left e → n < e.pages → (b : Bool) → (if b then e.first + n else e.first) < 2 ^ 36
@@ -131,7 +114,7 @@ module _ {s : List ℕ} {from count k at left : ℕ} {prev : Extent} {old : Mapp
     one_left : q.fuel ≡ suc (q.fuel - 1)
     one_left = suc_pred q.fuel left h q.enough
 
-    pub no_extent_read : (r : Fault) → extent_from left prev s at ≡ refused r → Refused r ≡ page_of_read s k (extents_from count count no_extent s from)
+    pub no_extent_read : (r : Fault) → extent_from left prev s at ≡ refused r → Err r ≡ page_of_read s k (extents_from count count no_extent s from)
     no_extent_read r w = sym (q.same ∙ rw one_left (ap (read_after s old (count - left) k) (read_bad (q.fuel - 1) left prev s at (λ z. omega arith) r w)))
 
     pub again : (e : Extent) (next : ℕ) → extent_from left prev s at ≡ got e next → Looking s from count k next (left - e.pages) e (note_of old (count - left) k e)
@@ -155,8 +138,8 @@ module _ {s : List ℕ} {from count k at left : ℕ} {prev : Extent} {old : Mapp
     finished : page_of_read s k (extents_from count count no_extent s from) ≡ read_after s old (count - left) k (got [] at)
     finished = q.same ∙ ap (read_after s old (count - left) k) (read_none q.fuel left prev s at (omega arith))
 
-    pub trailing : (at ≡ length s → ⊥) → Refused (unplaced TrailingBytes) ≡ page_of_read s k (extents_from count count no_extent s from)
+    pub trailing : (at ≡ length s → ⊥) → Err (unplaced TrailingBytes) ≡ page_of_read s k (extents_from count count no_extent s from)
     trailing l = sym (finished ∙ rw (ne_eqb at (length s) l))
 
-    pub answered : at ≡ length s → k < count → Answered old ≡ page_of_read s k (extents_from count count no_extent s from)
+    pub answered : at ≡ length s → k < count → Ok old ≡ page_of_read s k (extents_from count count no_extent s from)
     answered l b = sym (finished ∙ rw (eq-eqb at (length s) l, lt-ltb k (count - left) (omega arith)))

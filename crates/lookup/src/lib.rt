@@ -1,17 +1,16 @@
 // The lookup call: a map's bytes and an address, to the number and the offset that the map has for it.
 #![tactic(auto)]
 
-ghost use Rattle.std.specs.Prelude.{◌≡◌, ◌<◌, ◌^◌};
-ghost use Rattle.entry.specs.Pages.{virtual_page_of};
+ghost use Rattle.std.specs.Prelude.{◌≡◌, ◌<◌, ◌^◌, IfOk};
 ghost use Rattle.map_format.specs.Extents.{no_extent};
-ghost use Rattle.map_format.specs.Reading.{extents_from};
+ghost use Rattle.map_format.specs.Reading.{extents_from, map_fields};
 ghost use Rattle.map_format.specs.Inner.{FieldsInLimits};
-ghost use Rattle.lookup.specs.Call.{refused_lookup, fault_found, answer_at, in_range, LookupAnswer};
-ghost use Rattle.lookup.specs.Inner.{note_of, page_of_read, FileBelow, asked_of, found_for};
+ghost use Rattle.lookup.specs.Call.{fault_found, answer_at, in_range, LookupAnswer};
+ghost use Rattle.lookup.specs.Inner.{note_of, page_of_read, asked_of, found_in};
 
 use base::{Fault, PAGE_BYTES, Refusal};
 use entry::VirtualPage;
-use map_format::{Extent, ExtentRead, Header, HeaderRead, MappedPage};
+use map_format::{Extent, Header, MappedPage};
 
 #[repr(C)]
 #[derive(Clone, Copy)]
@@ -20,90 +19,51 @@ pub struct Found {
     pub offset: u64,
 }
 
-#[derive(Clone, Copy)]
-pub enum PageRead {
-    Answered(MappedPage),
-    Refused(Fault),
-}
+// A map at fault, or an address that is refused.
+impl From<Fault> for Found {
+    ghost from_gives = { λ f r. r ≡ fault_found f };
 
-// The whole map is read before the address is judged, so that its faults come first.
-pub fn lookup(map: &[u8], address: u64) -> Found
-    ensures { LookupAnswer map.now address result }
-{
-    match map_format::read_header(map) {
-        HeaderRead::Refused(fault) => fault_found(fault),
-        HeaderRead::Fields(header, at) => {
-            let k = asked_page(header, address);
-            let count = header.count;
-            match read_page(map, at, count, k) {
-                PageRead::Refused(fault) => fault_found(fault),
-                PageRead::Answered(page) => answer(header, address, page),
-            }
+    fn from(fault: Fault) -> Found {
+        Found {
+            number: fault.refusal.number(),
+            offset: fault.shown_position(),
         }
     }
 }
 
-fn refuse(refusal: Refusal) -> Found
-    ensures { result ≡ refused_lookup refusal }
+pub fn lookup(map: &[u8], address: u64) -> Found
+    ensures { LookupAnswer map.now address result }
 {
-    Found {
-        number: refusal.number(),
-        offset: 0,
+    match look_up(map, address) {
+        Ok(found) => found,
+        Err(fault) => fault.into(),
     }
 }
 
-// The same for a map at fault.
-fn fault_found(fault: Fault) -> Found
-    ensures { result ≡ fault_found fault }
+// The whole map is read before a refused address is told, so that the map's faults come first.
+fn look_up(map: &[u8], address: u64) -> Result<Found, Fault>
+    ensures { result ≡ found_in address (map_fields map.now 0) }
 {
-    let refusal = fault.refusal;
-    let number = refusal.number();
-    let position = fault.shown_position();
-    Found {
-        number,
-        offset: position,
-    }
+    let (header, at) = map_format::read_header(map)?;
+    let asked = asked_page(header, address);
+    let page = read_page(map, at, header.count, asked.unwrap_or(0))?;
+    asked?;
+    Ok(place(address, page))
 }
 
-// 20, then 41, then the answer of the page.
-fn answer(header: Header, address: u64, page: MappedPage) -> Found
-    requires { page.file < 2 ^ 36 }
-    ensures { result ≡ found_for header address page }
+// 20, then 41, then the page of the range that an address asks for.
+#[tactic(auto, unfolding(crate::specs::Inner::asked_of))]
+fn asked_page(header: Header, address: u64) -> Result<u64, Refusal>
+    ensures { result ≡ asked_of header address }
 {
     if !entry::is_canonical(address) {
-        return refuse(Refusal::NotCanonical);
+        return Err(Refusal::NotCanonical);
     }
-    if !is_in_range(header, VirtualPage::of_address(address)) {
-        return refuse(Refusal::OutsideMap);
-    }
-    place(address, page)
-}
-
-fn place(address: u64, page: MappedPage) -> Found
-    requires { page.file < 2 ^ 36 }
-    ensures { result ≡ answer_at address page }
-{
-    if !map_format::has_file_page(page.code) {
-        return Found {
-            number: page.code,
-            offset: 0,
-        };
-    }
-    Found {
-        number: page.code,
-        offset: PAGE_BYTES * page.file + address % PAGE_BYTES,
-    }
-}
-
-// The page of the range that an address asks for, 0 for an address outside it.
-fn asked_page(header: Header, address: u64) -> u64
-    ensures { result ≡ asked_of header (virtual_page_of address) }
-{
     let page = VirtualPage::of_address(address);
     if !is_in_range(header, page) {
-        return 0;
+        return Err(Refusal::OutsideMap);
     }
-    page.number() - header.start.number()
+    Ok(page.number() - header.start.number())
 }
 
 fn is_in_range(header: Header, page: VirtualPage) -> bool
@@ -111,57 +71,60 @@ fn is_in_range(header: Header, page: VirtualPage) -> bool
 {
     let asked = page.number();
     let start = header.start.number();
-    if asked < start {
-        return false;
+    start <= asked && asked - start < header.count
+}
+
+// For 1 and 2 the place in the page counts from the page's place in the file.
+fn place(address: u64, page: MappedPage) -> Found
+    requires { page.file < 2 ^ 36 }
+    ensures { result ≡ answer_at address page }
+{
+    let offset = if map_format::has_file_page(page.code) {
+        PAGE_BYTES * page.file + address % PAGE_BYTES
+    } else {
+        0
+    };
+    Found {
+        number: page.code,
+        offset,
     }
-    asked - start < header.count
 }
 
 // The answer of page k of `count` pages, whose extents stand from `from` to the end.
-fn read_page(s: &[u8], from: usize, count: u64, k: u64) -> PageRead
+fn read_page(s: &[u8], from: usize, count: u64, k: u64) -> Result<MappedPage, Fault>
     requires { k < count }
     ensures same { result ≡ page_of_read s.now k (extents_from count count no_extent s.now from) }
-    ensures low { FileBelow result }
+    ensures low { IfOk result (λ p. p.file < 2 ^ 36) }
 {
     let mut at = from;
     let mut left = count;
-    let mut prev = Extent {
-        code: 0,
-        pages: 0,
-        first: 0,
-    };
+    let mut prev = Extent::NONE;
     let mut page = MappedPage { code: 0, file: 0 };
+    // The loop goes by the pages that are left: an extent ends where its last field has been read.
     while 0 < left {
-        match map_format::read_extent(s, at, left, prev) {
-            ExtentRead::Refused(fault) => {
-                return PageRead::Refused(fault);
-            }
-            ExtentRead::Taken(e, next) => {
-                page = note(page, count - left, k, e);
-                left = left - e.pages;
-                prev = e;
-                at = next;
-            }
-        }
+        let (e, next) = map_format::read_extent(s, at, left, prev)?;
+        page = note(page, count - left, k, e);
+        left -= e.pages;
+        prev = e;
+        at = next;
     }
     if at != s.len() {
-        return PageRead::Refused(Fault::unplaced(Refusal::TrailingBytes));
+        return Err(Refusal::TrailingBytes.into());
     }
-    PageRead::Answered(page)
+    Ok(page)
 }
 
 // The answer so far, with an extent after `done` pages.
+#[tactic(auto, unfolding(crate::specs::Inner::note_of))]
 fn note(old: MappedPage, done: u64, k: u64, e: Extent) -> MappedPage
     requires { FieldsInLimits e }
     ensures { result ≡ note_of old done k e }
 {
-    if k < done {
-        return old;
+    match k.checked_sub(done) {
+        Some(n) if n < e.pages => MappedPage {
+            code: e.code,
+            file: map_format::page_after(e.code, n, e.first),
+        },
+        _ => old,
     }
-    let n = k - done;
-    if e.pages <= n {
-        return old;
-    }
-    let file = map_format::page_after(e.code, n, e.first);
-    MappedPage { code: e.code, file }
 }

@@ -1,5 +1,5 @@
--- Reading the header; and what a header that was read keeps to.
-use mathlib.Core.Path.{◌≡◌, refl}
+-- What a header that was read keeps to.
+use mathlib.Core.Path.{◌≡◌}
 use mathlib.Core.List.{List}
 use mathlib.Core.Bool.{Bool, true, false}
 use Prim.Native.Nat.{ℕ, ◌+◌, ◌^◌, ◌≤◌}
@@ -8,34 +8,16 @@ use lib.Dec.{leb, ltb}
 use borrow.Author.Tests.{leb-true}
 use Rattle.std.specs.Prelude.{if◌then◌else◌}
 use Rattle.base.specs.Notation.{within}
-use Rattle.base.specs.Refusal.{unplaced}
-use Rattle.base.specs.declared.Fault.{Fault}
 use Rattle.base.proofs.Test.{both_true}
 use Rattle.base.specs.declared.Refusal.TheVariants.{OutOfLimits}
 use Rattle.entry.specs.Pages.{virtual_page}
 use Rattle.entry.specs.declared.VirtualPage.{VirtualPage}
-use Rattle.varint.specs.Reader.{Read, got, refused, after, return}
-use Rattle.varint.specs.Edition.{EditionFields, edition_fields}
+use Rattle.varint.specs.Reader.{got, return}
+use Rattle.varint.specs.Edition.{edition_fields}
 use Rattle.varint.proofs.Reader.{came, held, returned}
 use Rattle.map_format.specs.Reading.{in_half, header_fields}
-use Rattle.map_format.specs.Inner.{as_header_read, judged_range}
 use Rattle.map_format.specs.declared.Header.{Header}
-use Rattle.map_format.specs.declared.HeaderRead.{HeaderRead}
 use Rattle.map_format.proofs.Steps.{header_of, after_edition}
-use Rattle.map_format.specs.declared.HeaderRead.TheVariants.{Fields, Refused}
-
-judging : (s : List ℕ) (h : Header) (next : ℕ) (b : Bool)
-    → (if b then Fields h next else Refused (unplaced OutOfLimits)) ≡ as_header_read (after s (λ (x : Unit {0}). return h) (if b then got tt next else refused (unplaced OutOfLimits)))
-judging s h next true = refl
-judging s h next false = refl
-
-pub no_fields : (s : List ℕ) (r : Fault) → edition_fields s 0 ≡ refused r → header_fields s 0 ≡ refused r
-unfolding header_fields
-no_fields s r e = rw e
-
-pub all_fields : (s : List ℕ) (f : EditionFields) (next : ℕ) → edition_fields s 0 ≡ got f next → judged_range (header_of f) next ≡ as_header_read (header_fields s 0)
-unfolding header_fields
-all_fields s f next e = rw e (judging s (header_of f) next (in_half (virtual_page f.first) f.second))
 
 pub record Range (start : VirtualPage) (count : ℕ) : Type 0 where
   pub some : 1 ≤ count
@@ -60,12 +42,3 @@ header_range s at h next e =
     let t = held s (λ x. return (header_of f)) (in_half (virtual_page f.first) f.second) OutOfLimits c.at h next c.rest in
     let same = (returned (header_of f) h c.at next t.1).0 in
     rw (← same) (in_half_lem (virtual_page f.first) f.second t.0)
-
--- what a caller of `read_header` learns
-pub header_got : (d : Read Header) (v : HeaderRead) (h : Header) (next : ℕ) → v ≡ as_header_read d → v ≡ Fields h next → d ≡ got h next
-header_got (got g j) v h next e f = cc
-header_got (refused q) v h next e f = absurd (let z : ◌≡◌ {A = ℕ} 0 1 = cc in omega arith)
-
-pub header_refused : (d : Read Header) (v : HeaderRead) (q : Fault) → v ≡ as_header_read d → v ≡ Refused q → d ≡ refused q
-header_refused (got h j) v q e f = absurd (let z : ◌≡◌ {A = ℕ} 0 1 = cc in omega arith)
-header_refused (refused p) v q e f = cc

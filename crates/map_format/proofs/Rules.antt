@@ -1,18 +1,15 @@
 -- The rules of an extent, test by test.
-use mathlib.Core.Path.{◌≡◌, refl, sym, ◌∙◌}
+use mathlib.Core.Path.{◌≡◌, refl}
 use mathlib.Core.Bool.{Bool, true, false, not, ◌&&◌, ◌||◌}
 use Prim.Native.Nat.{ℕ, ◌+◌, ◌^◌, ◌≤◌}
 use native.Mathlib.Omega.{arith}
 use lib.Dec.{ltb}
 use borrow.Author.Tests.{lt-ltb, le-leb}
 use Rattle.base.specs.Codes.{is_code}
-use Rattle.base.specs.Refusal.{unplaced}
-use Rattle.base.specs.declared.Refusal.TheVariants.{BadExtent}
 use Rattle.map_format.specs.Extents.{has_file_page, joins}
 use Rattle.map_format.specs.Reading.{sound}
 use Rattle.map_format.specs.declared.Extent.{Extent}
-use Rattle.map_format.specs.Inner.{FieldsInLimits, judged_extent}
-use Rattle.map_format.specs.declared.ExtentRead.TheVariants.{Taken, Refused}
+use Rattle.map_format.specs.Inner.{FieldsInLimits}
 
 -- an extent that keeps the rules by itself
 pub record KeepsRules (e : Extent) : Type 0 where
@@ -29,10 +26,3 @@ module _ (left : ℕ) (prev e : Extent) where
   pub apart : 1 ≤ e.pages → e.pages ≤ left → e.first + e.pages ≤ 2 ^ 36 → sound left prev e ≡ not (ltb 0 prev.pages && joins prev e.code e.first)
   unfolding sound
   apart h₁ h₂ h₃ = rw (lt-ltb 0 e.pages (omega arith), le-leb e.pages left h₂, le-leb (e.first + e.pages) (2 ^ 36) h₃, or_true (not (has_file_page e.code)))
-
-  module _ (next : ℕ) (r : Bool) (w : r ≡ sound left prev e) where
-    pub kept : r ≡ true → Taken e next ≡ judged_extent left prev e next
-    kept t = rw (sym w ∙ t)
-
-    pub broken : r ≡ false → Refused (unplaced BadExtent) ≡ judged_extent left prev e next
-    broken t = rw (sym w ∙ t)

@@ -8,7 +8,6 @@ ghost use Rattle.map_format.specs.Extents.{has_file_page, page_after, joins};
 ghost use Rattle.map_format.specs.Layout.{header_bytes, extent_bytes};
 ghost use Rattle.map_format.specs.Reading.{in_half, header_fields, first_from, sound, extent_from};
 ghost use Rattle.map_format.specs.Build.{open_bytes, PagesTaken, RoomFor};
-ghost use Rattle.map_format.specs.Inner.{as_header_read, judged_range, as_extent_read, judged_extent, FieldsInLimits};
 
 use base::{Fault, Refusal};
 use entry::VirtualPage;
@@ -41,6 +40,13 @@ pub struct Extent {
 }
 
 impl Extent {
+    // Stands before the first extent: 0 pages for none, as `sound` and `extents_from` of specs/Reading.antt have it.
+    pub const NONE: Extent = Extent {
+        code: 0,
+        pages: 0,
+        first: 0,
+    };
+
     // Does a page of this code at this page of the file belong to the extent before it?
     #[tactic(auto, unfolding(crate::specs::Extents::page_after))]
     fn joins(self, code: u64, file: u64) -> bool
@@ -56,18 +62,6 @@ impl Extent {
 pub struct Header {
     pub start: VirtualPage,
     pub count: u64,
-}
-
-#[derive(Clone, Copy)]
-pub enum HeaderRead {
-    Fields(Header, usize),
-    Refused(Fault),
-}
-
-#[derive(Clone, Copy)]
-pub enum ExtentRead {
-    Taken(Extent, usize),
-    Refused(Fault),
 }
 
 // The last extent, still open, if there is one yet, and the place after what was written.
@@ -160,31 +154,19 @@ fn write_extent(out: &mut [u8], at: usize, e: Extent) -> usize
 }
 
 // The header of a map, and where its extents begin.
-pub fn read_header(s: &[u8]) -> HeaderRead
-    ensures { result ≡ as_header_read (header_fields s.now 0) }
+#[tactic(auto, unfolding(crate::specs::Reading::header_fields, varint::specs::Edition::edition_fields))]
+pub fn read_header(s: &[u8]) -> Result<(Header, usize), Fault>
+    ensures { result ≡ as_result (header_fields s.now 0) }
 {
-    match varint::read_edition(s) {
-        Err(fault) => HeaderRead::Refused(fault),
-        Ok((_, a)) => match varint::read_field(s, a) {
-            Err(fault) => HeaderRead::Refused(fault),
-            Ok((first, b)) => match varint::read_field(s, b) {
-                Err(fault) => HeaderRead::Refused(fault),
-                Ok((count, next)) => {
-                    let start = VirtualPage::numbered(first);
-                    judge_range(Header { start, count }, next)
-                }
-            },
-        },
+    let (_, at) = varint::read_edition(s)?;
+    let (first, at) = varint::read_field(s, at)?;
+    let (count, next) = varint::read_field(s, at)?;
+    let start = VirtualPage::numbered(first);
+    let header = Header { start, count };
+    if !is_in_half(header) {
+        return Err(Refusal::OutOfLimits.into());
     }
-}
-
-fn judge_range(header: Header, next: usize) -> HeaderRead
-    ensures { result ≡ judged_range header next }
-{
-    if is_in_half(header) {
-        return HeaderRead::Fields(header, next);
-    }
-    HeaderRead::Refused(Fault::unplaced(Refusal::OutOfLimits))
+    Ok((header, next))
 }
 
 // 1 to 2^20 pages in one half?
@@ -201,30 +183,24 @@ fn is_in_half(header: Header) -> bool
 }
 
 // One extent after `prev`, with `left` pages left.
-pub fn read_extent(s: &[u8], at: usize, left: u64, prev: Extent) -> ExtentRead
-    requires { FieldsInLimits prev }
-    ensures { result ≡ as_extent_read (extent_from left prev s.now at) }
+#[tactic(auto, unfolding(crate::specs::Reading::extent_from))]
+pub fn read_extent(s: &[u8], at: usize, left: u64, prev: Extent) -> Result<(Extent, usize), Fault>
+    ensures { result ≡ as_result (extent_from left prev s.now at) }
 {
-    match varint::read_field(s, at) {
-        Err(fault) => ExtentRead::Refused(fault),
-        Ok((code, a)) => {
-            if !base::is_code(code) {
-                return ExtentRead::Refused(Fault::unplaced(Refusal::BadExtent));
-            }
-            match varint::read_field(s, a) {
-                Err(fault) => ExtentRead::Refused(fault),
-                Ok((pages, b)) => match read_first(s, b, code) {
-                    Err(fault) => ExtentRead::Refused(fault),
-                    Ok((first, next)) => {
-                        let e = Extent { code, pages, first };
-                        judge_extent(left, prev, e, next)
-                    }
-                },
-            }
-        }
+    let (code, at) = varint::read_field(s, at)?;
+    if !base::is_code(code) {
+        return Err(Refusal::BadExtent.into());
     }
+    let (pages, at) = varint::read_field(s, at)?;
+    let (first, next) = read_first(s, at, code)?;
+    let e = Extent { code, pages, first };
+    if !is_sound(left, prev, e) {
+        return Err(Refusal::BadExtent.into());
+    }
+    Ok((e, next))
 }
 
+// The first page of the file, 0 for a code that has none.
 fn read_first(s: &[u8], at: usize, code: u64) -> Result<(u64, usize), Fault>
     ensures { result ≡ as_result (first_from code s.now at) }
 {
@@ -234,18 +210,7 @@ fn read_first(s: &[u8], at: usize, code: u64) -> Result<(u64, usize), Fault>
     varint::read_field(s, at)
 }
 
-fn judge_extent(left: u64, prev: Extent, e: Extent, next: usize) -> ExtentRead
-    requires { FieldsInLimits prev × FieldsInLimits e }
-    ensures { result ≡ judged_extent left prev e next }
-{
-    if is_sound(left, prev, e) {
-        ExtentRead::Taken(e, next)
-    } else {
-        ExtentRead::Refused(Fault::unplaced(Refusal::BadExtent))
-    }
-}
-
-// Do the rules of an extent hold? `prev` with 0 pages stands for none.
+// Do the rules of an extent hold?
 #[tactic(auto, unfolding(crate::specs::Reading::sound))]
 fn is_sound(left: u64, prev: Extent, e: Extent) -> bool
     ensures { result ≡ sound left prev e }
