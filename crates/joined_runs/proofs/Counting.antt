@@ -1,97 +1,128 @@
--- Judging and counting the given runs by a loop: what was joined so far, before the runs still to come, is the whole.
-use Rattle.std.specs.Prelude.{if◌then◌else◌}
-use mathlib.Core.Path.{◌≡◌, sym, ap, ◌∙◌}
+-- Judging and counting the given runs one by one: what was joined so far, before the runs still to come, is the whole.
+use Rattle.std.specs.Prelude.{Some, None, Ok, Err, if◌then◌else◌}
+use mathlib.Core.Path.{◌≡◌, refl, ap}
 use mathlib.Core.Bool.{Bool, true, false}
 use mathlib.Core.List.{List, [], ◌∷◌}
 use Prim.Native.Nat.{ℕ, ◌+◌, ◌^◌, ◌<◌, ◌≤◌}
 use native.Mathlib.Omega.{arith}
-use lib.ListN.{length, drop}
+use lib.ListN.{length}
 use borrow.Author.Tests.{lt-ltb, le-ltb}
+use Rattle.base.specs.declared.Refusal.{Refusal}
 use Rattle.base.specs.declared.Refusal.TheVariants.{BadRun}
 use Rattle.sheet.specs.Sheet.{end_of}
 use Rattle.sheet.specs.declared.Run.{Run}
 use Rattle.sheet.proofs.OneRun.{Follows}
-use Rattle.sheet_limits.specs.Write.{runs_of, follows, in_order, touches, joined_before, joined_runs, writable}
-use Rattle.sheet_limits.specs.Inner.{Given}
-use Rattle.joined_runs.specs.Inner.{run_at, counted_runs, last_after, runs_added}
-use Rattle.joined_runs.specs.declared.Judged.TheVariants.{Runs, Refused}
-use Rattle.joined_runs.proofs.Joining.{last_end, count_next, writable_next, run_follows}
-use Rattle.joined_runs.proofs.GivenRuns.{runs_next, runs_none}
+use Rattle.sheet_limits.specs.Write.{all_below, runs_of, follows, in_order, touches, as_one, joined_before, joined_runs, writable}
+use Rattle.joined_runs.specs.Inner.{given_run, counted_runs, run_after, joined_run}
+use Rattle.joined_runs.proofs.GivenRuns.{runs_over, first_below, First}
+use Rattle.joined_runs.proofs.Joining.{touching, apart, one_end, run_follows}
 
-pub one_at_most : (last r : Run) → runs_added last r ≤ 1
-unfolding runs_added
-one_at_most last r = go (touches last r)
-  where
-    go : (b : Bool) → (if b then 0 else 1) ≤ 1
-    go true = omega arith
-    go false = omega arith
+-- ---- what a run's two questions answer
 
-pub record Counting (ss ls : List ℕ) (last : Run) (count i : ℕ) : Type 0 where
-  pub few : count ≤ i
-  pub top : end_of last ≤ 2 ^ 36
-  pub order : in_order 0 (runs_of ss ls) ≡ in_order (end_of last) (runs_of (drop i ss) (drop i ls))
-  pub lengths : writable (joined_runs (runs_of ss ls)) ≡ writable (joined_before last (joined_runs (runs_of (drop i ss) (drop i ls))))
-  pub many : length (joined_runs (runs_of ss ls)) + 1 ≡ count + length (joined_before last (joined_runs (runs_of (drop i ss) (drop i ls))))
+module _ (end : ℕ) (r : Run) where
+  pub can_follow : (x : Run) → Ok x ≡ run_after end r → (follows end r ≡ true) × (x ≡ r)
+  can_follow x = go (follows end r)
+    where
+      go : (b : Bool) → Ok x ≡ (if b then Ok r else Err BadRun) → (b ≡ true) × (x ≡ r)
+      go true e = (refl, cc)
+      go false e = absurd (cc)
 
--- ---- the first run
+  pub cannot_follow : (x : Refusal) → Err x ≡ run_after end r → (follows end r ≡ false) × (x ≡ BadRun)
+  cannot_follow x = go (follows end r)
+    where
+      go : (b : Bool) → Err x ≡ (if b then Ok r else Err BadRun) → (b ≡ false) × (x ≡ BadRun)
+      go true e = absurd (cc)
+      go false e = (refl, cc)
 
-module _ {ss ls : List ℕ} (g : Given ss ls) (r : Run) (er : r ≡ run_at ss ls 0) (b : Bool) (eb : b ≡ follows 0 r) where
-  first : runs_of ss ls ≡ r ∷ runs_of (drop 1 ss) (drop 1 ls)
-  first = rw er (runs_next ss ls 0 (omega (arith, g.some)) g.alike)
+module _ (last r : Run) where
+  pub do_touch : (x : Run) → Some x ≡ joined_run last r → (touches last r ≡ true) × (x ≡ as_one last r)
+  do_touch x = go (touches last r)
+    where
+      go : (b : Bool) → Some x ≡ (if b then Some (as_one last r) else None) → (b ≡ true) × (x ≡ as_one last r)
+      go true e = (refl, cc)
+      go false e = absurd (cc)
 
-  pub bad_first : b ≡ false → Refused BadRun ≡ counted_runs (runs_of ss ls)
-  bad_first h = rw (first, sym eb ∙ h)
+  pub are_apart : None ≡ joined_run last r → touches last r ≡ false
+  are_apart = go (touches last r)
+    where
+      go : (b : Bool) → None ≡ (if b then Some (as_one last r) else None) → b ≡ false
+      go true e = absurd (cc)
+      go false e = refl
 
-  pub counting_first : b ≡ true → Counting ss ls r 1 1
+-- ---- the runs so far and those still to come
+
+pub record Counting (all : List Run) (last : Run) (count : ℕ) (ss ls : List ℕ) : Type 0 where
+  pub few : count + length ss ≤ 1000
+  pub alike : length ss ≡ length ls
+  pub starts_below : all_below ss ≡ true
+  pub lengths_below : all_below ls ≡ true
+  pub order : in_order 0 all ≡ in_order (end_of last) (runs_of ss ls)
+  pub lengths : writable (joined_runs all) ≡ writable (joined_before last (joined_runs (runs_of ss ls)))
+  pub many : length (joined_runs all) + 1 ≡ count + length (joined_before last (joined_runs (runs_of ss ls)))
+
+module _ {ss ls : List ℕ} {s l : ℕ} {ss' ls' : List ℕ} (f : First ss ls s l ss' ls') where
+  pub bad_first : follows 0 (given_run s l) ≡ false → Err BadRun ≡ counted_runs (runs_of ss ls)
+  bad_first h = rw (f.runs, h)
+
+  pub counting_first : follows 0 (given_run s l) ≡ true → Counting (runs_of ss ls) (given_run s l) 1 ss' ls'
   counting_first h = record {
-    few = omega arith;
-    top = (run_follows 0 r (sym eb ∙ h)).top;
-    order = rw (first, sym eb ∙ h);
-    lengths = rw first;
-    many = rw first (omega arith);
+    few = omega (arith, f.few);
+    alike = f.alike;
+    starts_below = f.starts_below;
+    lengths_below = f.lengths_below;
+    order = rw (f.runs, h);
+    lengths = rw f.runs;
+    many = rw f.runs (omega arith);
   }
 
--- ---- the others
+module _ {all : List Run} {last : Run} {count s l : ℕ} {ss ls : List ℕ} (q : Counting all last count (s ∷ ss) (l ∷ ls)) where
+  pub next_below : (s < 2 ^ 36) × (l < 2 ^ 36)
+  next_below = ((first_below s ss q.starts_below).0, (first_below l ls q.lengths_below).0)
 
-module _ {ss ls : List ℕ} (g : Given ss ls) {last : Run} {count i : ℕ} (q : Counting ss ls last count i) where
-  module _ (l : i < length ss) (r : Run) (er : r ≡ run_at ss ls i) (end : ℕ) (ee : end ≡ end_of last) (b : Bool) (eb : b ≡ follows end r) where
-    next : runs_of (drop i ss) (drop i ls) ≡ r ∷ runs_of (drop (i + 1) ss) (drop (i + 1) ls)
-    next = rw er (runs_next ss ls i l g.alike)
+  pub bad_next : follows (end_of last) (given_run s l) ≡ false → Err BadRun ≡ counted_runs all
+  bad_next h = rw (q.order, h)
 
-    judged : follows (end_of last) r ≡ b
-    judged = sym (rw ee at eb)
+  module _ (h : follows (end_of last) (given_run s l) ≡ true) where
+    abbrev r : Run
+    r = given_run s l
 
-    pub bad_next : b ≡ false → Refused BadRun ≡ counted_runs (runs_of ss ls)
-    bad_next h = rw (q.order, next, judged ∙ h)
+    pub counting_touching : touches last r ≡ true → Counting all (as_one last r) count ss ls
+    counting_touching t =
+        let joined = touching last r (joined_runs (runs_of ss ls)) t in
+        record {
+          few = omega (arith, q.few);
+          alike = omega (arith, q.alike);
+          starts_below = (first_below s ss q.starts_below).1;
+          lengths_below = (first_below l ls q.lengths_below).1;
+          order = rw (one_end last r t, q.order, h);
+          lengths = rw (q.lengths, joined);
+          many = rw joined at q.many;
+        }
 
-    pub next_top : b ≡ true → end_of r ≤ 2 ^ 36
-    next_top h = (run_follows (end_of last) r (judged ∙ h)).top
+    -- a run that another follows ends below page 2^36
+    pub counting_apart : touches last r ≡ false → Counting all r (count + 1) ss ls
+    counting_apart t =
+        let f : Follows 0 (end_of last) r = run_follows (end_of last) r h in
+        let joined = apart last r (joined_runs (runs_of ss ls)) t in
+        record {
+          few = omega (arith, q.few);
+          alike = omega (arith, q.alike);
+          starts_below = (first_below s ss q.starts_below).1;
+          lengths_below = (first_below l ls q.lengths_below).1;
+          order = rw (q.order, h);
+          lengths = rw (q.lengths, joined, lt-ltb last.pages (2 ^ 36) (omega (arith, f.apart, f.some, f.top)));
+          many = omega (arith, q.many, ap (λ (rs : List Run). length rs) joined);
+        }
 
-    pub counting_next : b ≡ true → (n : ℕ) → n ≡ runs_added last r → (after : Run) → after ≡ last_after last r → Counting ss ls after (count + n) (i + 1)
-    counting_next h n en after ea =
-        let f : Follows 0 (end_of last) r = run_follows (end_of last) r (judged ∙ h) in
-        let rest = runs_of (drop (i + 1) ss) (drop (i + 1) ls) in
-        rw (en, ea)
-        (record {
-          few = omega (arith, q.few, one_at_most last r);
-          top = rw (last_end last r) f.top;
-          order = rw (last_end last r, q.order, next, judged ∙ h);
-          lengths = rw (q.lengths, next) (writable_next last r rest f);
-          many = omega (arith, q.many, ap (λ (rs : List Run). length (joined_before last (joined_runs rs))) next, count_next last r rest);
-        })
+module _ {all : List Run} {last : Run} {count : ℕ} {ss ls : List ℕ} (q : Counting all last count ss ls) (none : length ss ≡ 0) where
+  alone : joined_before last (joined_runs (runs_of ss ls)) ≡ last ∷ []
+  unfolding joined_before
+  alone = rw (runs_over ss ls none)
 
-  module _ (l : length ss ≤ i) where
-    in_order_all : in_order 0 (runs_of ss ls) ≡ true
-    in_order_all = rw (q.order, runs_none ss ls i l)
+  pub too_long : 2 ^ 36 ≤ last.pages → Err BadRun ≡ counted_runs all
+  too_long h = rw (q.order, q.lengths, alone, runs_over ss ls none, le-ltb last.pages (2 ^ 36) h)
 
-    alone : joined_before last (joined_runs (runs_of (drop i ss) (drop i ls))) ≡ last ∷ []
-    unfolding joined_before
-    alone = rw (runs_none ss ls i l)
-
-    pub too_long : 2 ^ 36 ≤ last.pages → Refused BadRun ≡ counted_runs (runs_of ss ls)
-    too_long h = rw (in_order_all, q.lengths, alone, le-ltb last.pages (2 ^ 36) h)
-
-    pub counted : last.pages < 2 ^ 36 → Runs count ≡ counted_runs (runs_of ss ls)
-    counted h =
-        let n : length (joined_runs (runs_of ss ls)) ≡ count = omega (arith, q.many, ap (λ (rs : List Run). length rs) alone) in
-        rw (in_order_all, q.lengths, alone, lt-ltb last.pages (2 ^ 36) h, n)
+  pub counted : last.pages < 2 ^ 36 → Ok count ≡ counted_runs all
+  counted h =
+      let n : length (joined_runs all) ≡ count = omega (arith, q.many, ap (λ (rs : List Run). length rs) alone) in
+      rw (q.order, q.lengths, alone, runs_over ss ls none, lt-ltb last.pages (2 ^ 36) h, n)

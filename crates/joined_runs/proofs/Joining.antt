@@ -2,7 +2,7 @@
 use Rattle.std.specs.Prelude.{if◌then◌else◌}
 use mathlib.Core.Path.{◌≡◌, refl, ap, ◌∙◌}
 use mathlib.Core.Bool.{Bool, true, false}
-use mathlib.Core.List.{List, [], ◌∷◌, ◌++◌}
+use mathlib.Core.List.{List, [], ◌∷◌}
 use Prim.Native.Nat.{ℕ, suc, ◌+◌, ◌^◌, ◌≤◌}
 use native.Mathlib.Omega.{arith}
 use lib.Dec.{ltb, leb}
@@ -13,12 +13,11 @@ use Rattle.sheet.specs.Sheet.{end_of}
 use Rattle.sheet.specs.declared.Run.{Run}
 use Rattle.sheet.proofs.OneRun.{Follows}
 use Rattle.sheet.proofs.AcceptedCase.{Chain}
-use Rattle.sheet_limits.specs.Write.{touches, as_one, joined_before, joined_runs, follows, in_order, writable, run_bytes, runs_bytes}
-use Rattle.joined_runs.specs.Inner.{last_after, runs_added}
+use Rattle.sheet_limits.specs.Write.{touches, as_one, joined_before, joined_runs, follows, in_order}
 
 -- ---- the last of the joined runs so far, before the next run and the joined runs after that
 
-touching : (last r : Run) (qs : List Run) → touches last r ≡ true → joined_before last (joined_before r qs) ≡ joined_before (as_one last r) qs
+pub touching : (last r : Run) (qs : List Run) → touches last r ≡ true → joined_before last (joined_before r qs) ≡ joined_before (as_one last r) qs
 unfolding joined_before
 touching last r [] h = rw h
 touching last r (q ∷ qs) h =
@@ -32,7 +31,7 @@ touching last r (q ∷ qs) h =
     go true = rw (h, sum)
     go false = rw h
 
-apart : (last r : Run) (qs : List Run) → touches last r ≡ false → joined_before last (joined_before r qs) ≡ last ∷ joined_before r qs
+pub apart : (last r : Run) (qs : List Run) → touches last r ≡ false → joined_before last (joined_before r qs) ≡ last ∷ joined_before r qs
 unfolding joined_before
 apart last r [] h = rw h
 apart last r (q ∷ qs) h = go (touches r q)
@@ -41,44 +40,9 @@ apart last r (q ∷ qs) h = go (touches r q)
     go true = rw h
     go false = rw h
 
-module _ (last r : Run) where
-  pub last_end : end_of (last_after last r) ≡ end_of r
-  unfolding last_after
-  last_end = go (touches last r) refl
-    where
-      go : (b : Bool) → touches last r ≡ b → end_of (if b then as_one last r else r) ≡ end_of r
-      go true h = omega (arith, eqb-true (end_of last) r.first.0 h)
-      go false h = refl
-
-  module _ (rs : List Run) where
-    -- the joined runs that are still to come, the last so far among them
-    pub count_next : length (joined_before last (joined_runs (r ∷ rs))) ≡ runs_added last r + length (joined_before (last_after last r) (joined_runs rs))
-    unfolding last_after runs_added
-    count_next = go (touches last r) refl
-      where
-        go : (b : Bool) → touches last r ≡ b
-            → length (joined_before last (joined_before r (joined_runs rs))) ≡ (if b then 0 else 1) + length (joined_before (if b then as_one last r else r) (joined_runs rs))
-        go true h = rw (touching last r (joined_runs rs) h) (omega arith)
-        go false h = rw (apart last r (joined_runs rs) h) (omega arith)
-
-    -- a run that another follows ends below page 2^36
-    pub writable_next : Follows 0 (end_of last) r
-        → writable (joined_before last (joined_runs (r ∷ rs))) ≡ writable (joined_before (last_after last r) (joined_runs rs))
-    unfolding last_after
-    writable_next f = go (touches last r) refl
-      where
-        go : (b : Bool) → touches last r ≡ b → writable (joined_before last (joined_before r (joined_runs rs))) ≡ writable (joined_before (if b then as_one last r else r) (joined_runs rs))
-        go true h = rw (touching last r (joined_runs rs) h)
-        go false h = rw (apart last r (joined_runs rs) h, lt-ltb last.pages (2 ^ 36) (omega (arith, f.apart, f.some, f.top)))
-
-    pub bytes_touching : (end : ℕ) → touches last r ≡ true → runs_bytes end (joined_before last (joined_runs (r ∷ rs))) ≡ runs_bytes end (joined_before (last_after last r) (joined_runs rs))
-    unfolding last_after
-    bytes_touching end h = rw (touching last r (joined_runs rs) h, h)
-
-    pub bytes_apart : (end : ℕ) → touches last r ≡ false
-        → runs_bytes end (joined_before last (joined_runs (r ∷ rs))) ≡ run_bytes end last ++ runs_bytes (end_of last) (joined_before (last_after last r) (joined_runs rs))
-    unfolding last_after
-    bytes_apart end h = rw (apart last r (joined_runs rs) h, h)
+-- two runs as one end where the second does
+pub one_end : (last r : Run) → touches last r ≡ true → end_of (as_one last r) ≡ end_of r
+one_end last r h = omega (arith, eqb-true (end_of last) r.first.0 h)
 
 -- ---- runs in order, one by one
 

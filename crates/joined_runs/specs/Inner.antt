@@ -1,23 +1,22 @@
 -- What judging and joining the given runs answers.
-use Rattle.std.specs.Prelude.{ℕ, List, length, get_or, if◌then◌else◌}
+use Rattle.std.specs.Prelude.{ℕ, List, length, Option, Some, None, Result, Ok, Err, if◌then◌else◌}
+use Rattle.base.specs.declared.Refusal.{Refusal}
 use Rattle.base.specs.declared.Refusal.TheVariants.{BadRun}
 use Rattle.entry.specs.Pages.{frame}
 use Rattle.sheet.specs.declared.Run.{Run}
-use Rattle.sheet_limits.specs.Write.{touches, as_one, joined_runs, sound_runs}
-use Rattle.joined_runs.specs.declared.Judged.{Judged}
-use Rattle.joined_runs.specs.declared.Judged.TheVariants.{Runs, Refused}
+use Rattle.sheet_limits.specs.Write.{follows, touches, as_one, joined_runs, sound_runs}
 
--- the run that is given at a place
-abbrev pub run_at : List ℕ → List ℕ → ℕ → Run
-run_at starts lengths i = record { first = frame (get_or starts i 0); pages = get_or lengths i 0 }
+-- the run of a start and a length
+abbrev pub given_run : ℕ → ℕ → Run
+given_run start pages = record { first = frame start; pages = pages }
 
-abbrev pub counted_runs : List Run → Judged
-counted_runs rs = if sound_runs rs then Runs (length (joined_runs rs)) else Refused BadRun
+abbrev pub counted_runs : List Run → Result ℕ Refusal
+counted_runs rs = if sound_runs rs then Ok (length (joined_runs rs)) else Err BadRun
 
--- the last of the joined runs after the next run
-unfoldable pub last_after : Run → Run → Run
-last_after last r = if touches last r then as_one last r else r
+-- a run that can be given after one that ends at the page `end`
+abbrev pub run_after : ℕ → Run → Result Run Refusal
+run_after end r = if follows end r then Ok r else Err BadRun
 
--- by how many the joined runs grow with the next run
-unfoldable pub runs_added : Run → Run → ℕ
-runs_added last r = if touches last r then 0 else 1
+-- two runs as one, where they touch
+abbrev pub joined_run : Run → Run → Option Run
+joined_run last r = if touches last r then Some (as_one last r) else None

@@ -1,11 +1,13 @@
 // The given runs: whether they can be written, else 13, and those that touch joined one by one.
 #![tactic(auto)]
 
-ghost use Rattle.std.specs.Prelude.{◌≡◌, ◌≤◌, ◌<◌, ◌^◌, length};
+ghost use Rattle.std.specs.Prelude.{◌≡◌, ◌+◌, ◌≤◌, ◌<◌, ◌^◌};
+ghost use Rattle.std.specs.Option.{option_map};
+ghost use Rattle.std.specs.Result.{result_map_both};
 ghost use Rattle.sheet.specs.Sheet.{end_of};
-ghost use Rattle.sheet_limits.specs.Write.{runs_of, follows, touches};
+ghost use Rattle.sheet_limits.specs.Write.{runs_of};
 ghost use Rattle.sheet_limits.specs.Inner.{Given};
-ghost use Rattle.joined_runs.specs.Inner.{run_at, counted_runs, last_after, runs_added};
+ghost use Rattle.joined_runs.specs.Inner.{given_run, counted_runs, run_after, joined_run};
 
 use base::Refusal;
 use entry::Frame;
@@ -17,108 +19,78 @@ const TOP_PAGE: u64 = 0x1000000000;
 // 02 order 4: a joined run of this many pages has no written length.
 const WHOLE: u64 = 0x1000000000;
 
-// How many runs there are once those that touch are joined, or the refusal.
+// A run that ends at or below page 2^36.
 #[derive(Clone, Copy)]
-pub enum Judged {
-    Runs(usize),
-    Refused(Refusal),
+pub struct RunBelowTop {
+    pub run: Run,
+    pub ghost top: { end_of run ≤ 2 ^ 36 },
 }
 
 // 13, or how many runs there are once those that touch are joined.
-pub fn count_runs(starts: &[u64], lengths: &[u64]) -> Judged
+pub fn count_runs(starts: &[u64], lengths: &[u64]) -> Result<usize, Refusal>
     requires { Given starts.now lengths.now }
     ensures { result ≡ counted_runs (runs_of starts.now lengths.now) }
 {
-    let mut last = run_at(starts, lengths, 0);
-    if !follows(0, last) {
-        return Judged::Refused(Refusal::BadRun);
-    }
+    let mut last = RunBelowTop::after(0, starts[0], lengths[0])?;
     let mut count = 1;
-    let mut i = 1;
-    while i < starts.len() {
-        let run = run_at(starts, lengths, i);
-        let end = end_of(last);
-        if !follows(end, run) {
-            return Judged::Refused(Refusal::BadRun);
+    for (start, pages) in starts[1..].iter().zip(&lengths[1..]) {
+        let run = RunBelowTop::after(last.end(), *start, *pages)?;
+        match last.joined_with(run) {
+            Some(both) => last = both,
+            None => {
+                count += 1;
+                last = run;
+            }
         }
-        count += runs_added(last, run);
-        last = last_after(last, run);
-        i += 1;
     }
-    if WHOLE <= last.pages {
-        return Judged::Refused(Refusal::BadRun);
+    if WHOLE <= last.run.pages {
+        return Err(Refusal::BadRun);
     }
-    Judged::Runs(count)
+    Ok(count)
 }
 
-// The run that is given at a place of the lists.
-pub fn run_at(starts: &[u64], lengths: &[u64], i: usize) -> Run
-    requires { (i < length starts.now) × (i < length lengths.now) }
-    ensures { result ≡ run_at starts.now lengths.now i }
-{
-    let first = Frame::numbered(starts[i]);
-    Run {
-        first,
-        pages: lengths[i],
+impl RunBelowTop {
+    // The run of a start and a length, in pages.
+    pub fn given(start: u64, pages: u64) -> RunBelowTop
+        requires { start + pages ≤ 2 ^ 36 }
+        ensures { result.run ≡ given_run start pages }
+    {
+        let first = Frame::numbered(start);
+        RunBelowTop {
+            run: Run { first, pages },
+        }
     }
-}
 
-// Can a run be given after one that ends at the page `end`?
-fn follows(end: u64, run: Run) -> bool
-    requires { (run.first.0 < 2 ^ 36) × (run.pages < 2 ^ 36) }
-    ensures { result ≡ follows end run }
-{
-    let frame = run.first;
-    let first = frame.number();
-    if run.pages < 1 {
-        return false;
+    // The same, unless it has no page, starts before the page `end` or ends past page 2^36: then 13.
+    fn after(end: u64, start: u64, pages: u64) -> Result<RunBelowTop, Refusal>
+        requires { (start < 2 ^ 36) × (pages < 2 ^ 36) }
+        ensures { result_map_both (λ r. r.run) (λ e. e) result ≡ run_after end (given_run start pages) }
+    {
+        if pages < 1 || start < end || TOP_PAGE < start + pages {
+            return Err(Refusal::BadRun);
+        }
+        Ok(RunBelowTop::given(start, pages))
     }
-    if first < end {
-        return false;
+
+    // The page after the last.
+    pub fn end(self) -> u64
+        ensures { result ≡ end_of self.run }
+    {
+        self.run.first.number() + self.run.pages
     }
-    first + run.pages <= TOP_PAGE
-}
 
-// The page after a run's last.
-fn end_of(run: Run) -> u64
-    requires { end_of run ≤ 2 ^ 36 }
-    ensures { result ≡ end_of run }
-{
-    let frame = run.first;
-    frame.number() + run.pages
-}
-
-// Does a run start at the end of the last one?
-pub fn touches(last: Run, run: Run) -> bool
-    requires { end_of last ≤ 2 ^ 36 }
-    ensures { result ≡ touches last run }
-{
-    let frame = run.first;
-    end_of(last) == frame.number()
-}
-
-// By how many the joined runs grow with the next run.
-fn runs_added(last: Run, run: Run) -> usize
-    requires { end_of last ≤ 2 ^ 36 }
-    ensures { result ≡ runs_added last run }
-{
-    if touches(last, run) {
-        return 0;
+    // This run and the next as one, where the next starts at the end of this one.
+    pub fn joined_with(self, next: RunBelowTop) -> Option<RunBelowTop>
+        ensures { option_map (λ r. r.run) result ≡ joined_run self.run next.run }
+    {
+        if self.end() != next.run.first.number() {
+            return None;
+        }
+        Some(RunBelowTop {
+            run: Run {
+                first: self.run.first,
+                pages: self.run.pages + next.run.pages,
+            },
+        })
     }
-    1
-}
-
-// The last of the joined runs after the next run.
-pub fn last_after(last: Run, run: Run) -> Run
-    requires { (end_of last ≤ 2 ^ 36) × (end_of run ≤ 2 ^ 36) }
-    ensures { result ≡ last_after last run }
-{
-    if touches(last, run) {
-        let first = last.first;
-        let own = last.pages;
-        let more = run.pages;
-        let pages = own + more;
-        return Run { first, pages };
-    }
-    run
 }

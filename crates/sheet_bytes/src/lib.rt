@@ -3,13 +3,13 @@
 
 ghost use Rattle.std.specs.Prelude.{◌≡◌, true, ◌≤◌, ◌<◌, ◌^◌};
 ghost use Rattle.base.specs.Overlay.{Wrote};
-ghost use Rattle.sheet.specs.Sheet.{end_of};
 ghost use Rattle.sheet.specs.Inner.{PlaceInPage};
 ghost use Rattle.sheet_limits.specs.Write.{runs_of, in_order, joined_runs, edition_of, mode_bytes, header_bytes, run_bytes, runs_bytes, sheet_bytes};
 ghost use Rattle.sheet_limits.specs.Inner.{Given};
 ghost use Rattle.sheet_bytes.specs.Inner.{written_sheet, Ready, Room, RunTaken};
 
 use entry::PagingMode;
+use joined_runs::RunBelowTop;
 use sheet::{Header, Run};
 
 // 02 order 7: the edition with a paging mode.
@@ -20,7 +20,7 @@ const SECOND_EDITION: u64 = 2;
 struct RunWriter {
     at: usize,
     end: u64,
-    last: Run,
+    last: RunBelowTop,
 }
 
 // Writes the whole sheet, and answers its length; bytes that fall past the buffer's end are counted and not written.
@@ -38,11 +38,9 @@ fn write_header(out: &mut [u8], header: Header) -> usize
     ensures { Wrote out.old 0 (header_bytes header) result out.new }
 {
     let space = header.space;
-    let directory = space.directory;
-    let mode = space.mode;
-    let a = varint::write_number(out, 0, edition_of(mode));
-    let b = varint::write_number(out, a, directory.number());
-    let c = write_mode(out, b, mode);
+    let a = varint::write_number(out, 0, edition_of(space.mode));
+    let b = varint::write_number(out, a, space.directory.number());
+    let c = write_mode(out, b, space.mode);
     varint::write_number(out, c, header.count as u64)
 }
 
@@ -51,8 +49,7 @@ fn edition_of(mode: PagingMode) -> u64
 {
     match mode {
         PagingMode::FourLevel => varint::EDITION,
-        PagingMode::Plain => SECOND_EDITION,
-        PagingMode::Pae(_) => SECOND_EDITION,
+        PagingMode::Plain | PagingMode::Pae(_) => SECOND_EDITION,
     }
 }
 
@@ -61,13 +58,11 @@ fn write_mode(out: &mut [u8], at: usize, mode: PagingMode) -> usize
     requires { (at < 2 ^ 62) × PlaceInPage mode }
     ensures { Wrote out.old at (mode_bytes mode) result out.new }
 {
-    let number = sheet::mode_number(mode);
-    let place = sheet::place_of(mode);
-    if number == 0 {
+    if let PagingMode::FourLevel = mode {
         return at;
     }
-    let a = varint::write_number(out, at, number);
-    varint::write_number(out, a, place)
+    let a = varint::write_number(out, at, sheet::mode_number(mode));
+    varint::write_number(out, a, sheet::place_of(mode))
 }
 
 // Writes the joined runs from a place on, and answers the place after them.
@@ -78,50 +73,45 @@ fn write_runs(out: &mut [u8], from: usize, starts: &[u64], lengths: &[u64]) -> u
     let mut writer = RunWriter {
         at: from,
         end: 0,
-        last: joined_runs::run_at(starts, lengths, 0),
+        last: RunBelowTop::given(starts[0], lengths[0]),
     };
-    let mut i = 1;
-    while i < starts.len() {
-        writer = writer.push(out, joined_runs::run_at(starts, lengths, i));
-        i += 1;
+    for (start, pages) in starts[1..].iter().zip(&lengths[1..]) {
+        writer = writer.push(out, RunBelowTop::given(*start, *pages));
     }
     writer.finish(out)
 }
 
 impl RunWriter {
     // Takes the next run: it makes the last run longer, or the last run is written and the next one takes its place.
-    fn push(mut self, out: &mut [u8], run: Run) -> Self
-        requires { Room self × (end_of run ≤ 2 ^ 36) }
-        ensures { RunTaken out.old self run out.new result }
+    fn push(self, out: &mut [u8], run: RunBelowTop) -> Self
+        requires { Room self }
+        ensures { RunTaken out.old self run.run out.new result }
     {
-        let last = self.last;
-        self.last = joined_runs::last_after(last, run);
-        if joined_runs::touches(last, run) {
-            return self;
+        match self.last.joined_with(run) {
+            Some(both) => RunWriter { last: both, ..self },
+            None => RunWriter {
+                at: write_run(out, self.at, self.end, self.last),
+                end: self.last.end(),
+                last: run,
+            },
         }
-        let at = write_run(out, self.at, self.end, last);
-        self.at = at;
-        let first = last.first;
-        let pages = last.pages;
-        self.end = first.number() + pages;
-        self
     }
 
     // Writes the last run, and answers the place after it.
     fn finish(self, out: &mut [u8]) -> usize
         requires { Room self }
-        ensures { Wrote out.old self.at (run_bytes self.end self.last) result out.new }
+        ensures { Wrote out.old self.at (run_bytes self.end self.last.run) result out.new }
     {
         write_run(out, self.at, self.end, self.last)
     }
 }
 
 // Writes a run's gap from the page `end` and its length, and answers the place after them.
-fn write_run(out: &mut [u8], at: usize, end: u64, run: Run) -> usize
-    requires { (at < 2 ^ 62) × ((end ≤ run.first.0) × (end_of run ≤ 2 ^ 36)) }
-    ensures { Wrote out.old at (run_bytes end run) result out.new }
+fn write_run(out: &mut [u8], at: usize, end: u64, run: RunBelowTop) -> usize
+    requires { (at < 2 ^ 62) × (end ≤ run.run.first.0) }
+    ensures { Wrote out.old at (run_bytes end run.run) result out.new }
 {
-    let first = run.first;
+    let Run { first, pages } = run.run;
     let a = varint::write_number(out, at, first.number() - end);
-    varint::write_number(out, a, run.pages)
+    varint::write_number(out, a, pages)
 }

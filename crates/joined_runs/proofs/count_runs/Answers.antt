@@ -1,56 +1,59 @@
--- The loop keeps `Counting`: what was joined so far, before the runs still to come, is the whole; each refusal is one of a rule that the runs break.
-use native.Mathlib.Omega.{arith}
-use Rattle.joined_runs.proofs.GivenRuns.{run_below}
-use Rattle.joined_runs.proofs.Counting.{one_at_most, bad_first, counting_first, bad_next, next_top, counting_next, too_long, counted}
+-- Each run is judged after the last; one that touches it makes it longer, another counts by itself.
+use Rattle.std.proofs.Common.{◌≡◌, length, get_or, arith, ◌∙◌, inl, inr}
+use Rattle.std.proofs.lemmas.Result.{err_from_is_err_and}
+use Rattle.joined_runs.specs.Inner.{given_run}
+use Rattle.joined_runs.proofs.GivenRuns.{first}
+use Rattle.joined_runs.proofs.Counting.{can_follow, cannot_follow, do_touch, are_apart, counting_first, next_below, bad_next, counting_touching, counting_apart, too_long, counted}
 use Rattle.joined_runs.proofs.count_runs.Goals as goal
 
-pub run_at-last-requires : goal.run_at-last-requires
-run_at-last-requires c = let given = c.requires in (omega (arith, given.some), omega (arith, given.some, given.alike))
+pub loop-start-init : goal.loop-start-init
+loop-start-init c =
+    let starts = c.args.starts.now in
+    let lengths = c.args.lengths.now in
+    let follows = can_follow 0 (given_run (get_or starts 0 0) (get_or lengths 0 0)) c.in_ok-last.last.run c.in_ok-last.ensures in
+    rw (
+      follows.1,
+      c.into_iter-start-iterator.ensures.into_iter_gives,
+      c.zip-start-items.ensures.first,
+      c.iter.ensures.rest,
+      c.zip-start-items.ensures.second.0,
+    ) ((tt, tt), (tt, counting_first (first starts lengths c.requires) follows.0))
 
-pub follows-requires : goal.follows-requires
-follows-requires c = let given = c.requires in rw c.run_at-last.ensures (run_below given 0 (omega (arith, given.some)))
+pub after-requires-in-loop-start : goal.after-requires-in-loop-start
+after-requires-in-loop-start c = let e = c.in-Some.ensures.steps in next_below (rw (e.0, e.1) at c.loop-start.invariant.1.1)
 
-pub returns-then-not-follows : goal.returns-then-not-follows
-returns-then-not-follows c = bad_first c.requires _ c.run_at-last.ensures _ c.follows.ensures (c.if-not-follows.true)
+pub returns-in_err-run : goal.returns-in_err-run
+returns-in_err-run c =
+    let e = c.in-Some.ensures.steps in
+    let q = rw (e.0, e.1) at c.loop-start.invariant.1.1 in
+    let bad = cannot_follow c.end.result _ c.in_err-run.field-0.0 c.in_err-run.ensures in
+    let p = err_from_is_err_and c.from_residual-in_err-run.result c.from_residual-in_err-run.ensures.1 in
+    rw (p.1, p.2, bad.1) (bad_next q (rw c.end.ensures at bad.0))
 
-pub loop-i-init : goal.loop-i-init
-loop-i-init c = counting_first c.requires _ c.run_at-last.ensures _ c.follows.ensures (c.if-not-follows.false)
+pub loop-start-preserved-in-Some-joined_with : goal.loop-start-preserved-in-Some-joined_with
+loop-start-preserved-in-Some-joined_with c =
+    let e = c.in-Some.ensures.steps in
+    let q = rw (e.0, e.1) at c.loop-start.invariant.1.1 in
+    let follows = can_follow c.end.result _ c.in_ok-run.run'.run c.in_ok-run.ensures in
+    let touch = rw follows.1 at (do_touch c.loop-start.last.run c.in_ok-run.run'.run c.in-Some-joined_with.both.run c.in-Some-joined_with.ensures) in
+    rw touch.1 ((tt, tt), (tt, counting_touching q (rw c.end.ensures at follows.0) touch.0))
 
-pub run_at-run-requires : goal.run_at-run-requires
-run_at-run-requires c = (omega (arith, c.loop-i-test.true), omega (arith, c.loop-i-test.true, c.requires.alike))
-
-pub end_of-end-requires : goal.end_of-end-requires
-end_of-end-requires c = c.loop-i.invariant.top
-
-pub follows-requires-in-loop-i : goal.follows-requires-in-loop-i
-follows-requires-in-loop-i c = rw c.run_at-run.ensures (run_below c.requires _ c.loop-i-test.true)
-
-pub returns-then-not-follows-2 : goal.returns-then-not-follows-2
-returns-then-not-follows-2 c =
-    let given = c.requires in
-    let judged = bad_next given c.loop-i.invariant c.loop-i-test.true _ c.run_at-run.ensures _ c.end_of-end.ensures in
-    judged _ c.follows-in-loop-i.ensures (c.if-not-follows-2.true)
-
-pub runs_added-count-requires : goal.runs_added-count-requires
-runs_added-count-requires c = c.loop-i.invariant.top
-
-pub overflow_add-count : goal.overflow_add-count
-overflow_add-count c = omega (arith, c.loop-i.invariant.few, c.loop-i-test.true, c.runs_added-count.ensures, one_at_most c.loop-i.last c.run_at-run.result)
-
-pub last_after-last-requires : goal.last_after-last-requires
-last_after-last-requires c =
-    let given = c.requires in
-    let judged = next_top given c.loop-i.invariant c.loop-i-test.true _ c.run_at-run.ensures _ c.end_of-end.ensures in
-    (c.loop-i.invariant.top, judged _ c.follows-in-loop-i.ensures (c.if-not-follows-2.false))
-
-pub loop-i-preserved : goal.loop-i-preserved
-loop-i-preserved c =
-    let given = c.requires in
-    let judged = counting_next given c.loop-i.invariant c.loop-i-test.true _ c.run_at-run.ensures _ c.end_of-end.ensures in
-    judged _ c.follows-in-loop-i.ensures (c.if-not-follows-2.false) _ c.runs_added-count.ensures _ c.last_after-last.ensures
+pub loop-start-preserved : goal.loop-start-preserved
+loop-start-preserved c =
+    let e = c.in-Some.ensures.steps in
+    let q = rw (e.0, e.1) at c.loop-start.invariant.1.1 in
+    let follows = can_follow c.end.result _ c.in_ok-run.run'.run c.in_ok-run.ensures in
+    let apart = rw follows.1 at (are_apart c.loop-start.last.run c.in_ok-run.run'.run c.in-None-joined_with.ensures) in
+    rw follows.1 ((tt, tt), (tt, counting_apart q (rw c.end.ensures at follows.0) apart))
 
 pub returns-then-last-ge-WHOLE : goal.returns-then-last-ge-WHOLE
-returns-then-last-ge-WHOLE c = too_long c.requires c.loop-i.invariant c.loop-i-test.false (omega (arith, c.if-last-ge-WHOLE.true))
+returns-then-last-ge-WHOLE c =
+    let q = c.loop-start.invariant.1.1 in
+    let none : length c.loop-start.start-iterator.a.rest.now ≡ 0 = elim c.in-None.ensures.steps [ inl x ↦ x.1.0 | inr x ↦ q.alike ∙ x.1.0 ] in
+    too_long q none (omega (arith, c.if-last-ge-WHOLE.true))
 
 pub returns : goal.returns
-returns c = counted c.requires c.loop-i.invariant c.loop-i-test.false (omega (arith, c.if-last-ge-WHOLE.false))
+returns c =
+    let q = c.loop-start.invariant.1.1 in
+    let none : length c.loop-start.start-iterator.a.rest.now ≡ 0 = elim c.in-None.ensures.steps [ inl x ↦ x.1.0 | inr x ↦ q.alike ∙ x.1.0 ] in
+    counted q none (omega (arith, c.if-last-ge-WHOLE.false))

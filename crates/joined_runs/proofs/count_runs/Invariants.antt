@@ -1,11 +1,12 @@
--- The loop keeps `Counting`: what was joined so far, before the runs still to come, is the whole; each refusal is one of a rule that the runs break.
-use Prim.Native.Nat.{◌-◌}
-use lib.ListN.{length}
+-- The loop keeps `Counting`: what was joined so far, before the runs still to come, is the whole.
+use Rattle.std.specs.Iterator.Adapters.{zip_first, zip_second}
+use Rattle.std.specs.Slice.Iter.{iter_rest}
+use Rattle.sheet_limits.specs.Write.{runs_of}
 use Rattle.joined_runs.proofs.Counting.{Counting}
 use Rattle.joined_runs.proofs.count_runs.Given as goal
 
-abbrev pub invariant-loop-i : goal.invariant-loop-i
-invariant-loop-i l = Counting l.starts l.lengths l.last l.count l.i
-
-abbrev pub decreases-loop-i : goal.decreases-loop-i
-decreases-loop-i l = length l.starts - l.i
+abbrev pub invariant-loop-start : goal.invariant-loop-start
+invariant-loop-start l =
+    (goal.iterator-loop-start).can_next l.start-iterator
+    × ((goal.iterator-loop-start).is_finite l.start-iterator
+    × Counting (runs_of l.starts l.lengths) l.last.run l.count (iter_rest (zip_first l.start-iterator)) (iter_rest (zip_second l.start-iterator)))

@@ -1,37 +1,40 @@
--- The loop keeps `Writing`: what is written so far, with the last run and the runs still to come after it, is the whole.
-use native.Mathlib.Omega.{arith}
-use mathlib.Core.Path.{ap, ◌∙◌}
-use lib.ListN.{length}
-use lib.Seq.{length-sets}
-use Rattle.sheet_bytes.proofs.Writing.{writing_first, writing_room, next_follows, writing_next, all_written}
+-- The loop keeps `Writing`: what is written so far, before the last run and the runs still to come, is the whole.
+use Rattle.std.proofs.Common.{◌≡◌, length, refl, ◌∙◌, inl, inr}
+use Rattle.joined_runs.proofs.GivenRuns.{first}
+use Rattle.sheet_bytes.proofs.Writing.{first_top, writing_first, writing_room, next_top, writing_next, all_written}
 use Rattle.sheet_bytes.proofs.write_runs.Goals as goal
 
-pub run_at-requires : goal.run_at-requires
-run_at-requires c = let given = c.requires.1.0 in (omega (arith, given.some), omega (arith, given.some, given.alike))
+pub given-requires : goal.given-requires
+given-requires c = first_top (first c.args.starts.now c.args.lengths.now c.requires.1.0) c.requires.1.1
 
-pub loop-i-init : goal.loop-i-init
-loop-i-init c = writing_first c.requires.1.0 c.requires.1.1 _ _ _ c.run_at.ensures
+pub loop-start-init : goal.loop-start-init
+loop-start-init c =
+    let starts = c.args.starts.now in
+    let lengths = c.args.lengths.now in
+    rw (
+      c.into_iter-start-iterator.ensures.into_iter_gives,
+      c.zip-start-items.ensures.first,
+      c.iter.ensures.rest,
+      c.zip-start-items.ensures.second.0,
+    ) ((tt, tt), (tt, writing_first (first starts lengths c.requires.1.0) c.requires.1.1 _ _ _ refl refl c.given.ensures))
 
-pub run_at-requires-in-loop-i : goal.run_at-requires-in-loop-i
-run_at-requires-in-loop-i c = (omega (arith, c.loop-i-test.true), omega (arith, c.loop-i-test.true, c.requires.1.0.alike))
+pub given-requires-in-loop-start : goal.given-requires-in-loop-start
+given-requires-in-loop-start c = let e = c.in-Some.ensures.steps in next_top (rw (e.0, e.1) at c.loop-start.invariant.1.1)
 
 pub push-writer-requires : goal.push-writer-requires
-push-writer-requires c =
-    let at-loop = c.loop-i.invariant in (
-      writing_room at-loop c.requires.1.0 c.requires.0,
-      (next_follows at-loop c.requires.1.0 c.loop-i-test.true _ c.run_at-in-loop-i.ensures).0.top,
-    )
+push-writer-requires c = writing_room c.loop-start.invariant.1.1 c.requires.0
 
-pub loop-i-preserved : goal.loop-i-preserved
-loop-i-preserved c = writing_next c.loop-i.invariant c.requires.1.0 c.loop-i-test.true _ c.run_at-in-loop-i.ensures c.push-writer.ensures
+pub loop-start-preserved : goal.loop-start-preserved
+loop-start-preserved c =
+    let e = c.in-Some.ensures.steps in
+    let q = rw (e.0, e.1) at c.loop-start.invariant.1.1 in
+    ((tt, tt), (tt, writing_next q (rw c.given-in-loop-start.ensures at c.push-writer.ensures)))
 
 pub finish-requires : goal.finish-requires
-finish-requires c = writing_room c.loop-i.invariant c.requires.1.0 c.requires.0
-
-pub shape_of-out : goal.shape_of-out
-shape_of-out c =
-    let all = all_written c.loop-i.invariant c.loop-i-test.false c.finish.ensures in
-    ap length all.bytes ∙ simp length-sets
+finish-requires c = writing_room c.loop-start.invariant.1.1 c.requires.0
 
 pub returns : goal.returns
-returns c = all_written c.loop-i.invariant c.loop-i-test.false c.finish.ensures
+returns c =
+    let q = c.loop-start.invariant.1.1 in
+    let none : length c.loop-start.start-iterator.a.rest.now ≡ 0 = elim c.in-None.ensures.steps [ inl x ↦ x.1.0 | inr x ↦ q.alike ∙ x.1.0 ] in
+    all_written q none c.finish.ensures

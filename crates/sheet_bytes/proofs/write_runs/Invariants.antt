@@ -1,11 +1,12 @@
--- The loop keeps `Writing`: what is written so far, with the last run and the runs still to come after it, is the whole.
-use Prim.Native.Nat.{◌-◌}
-use lib.ListN.{length}
+-- The loop keeps `Writing`: what is written so far, before the last run and the runs still to come, is the whole.
+use Rattle.std.specs.Iterator.Adapters.{zip_first, zip_second}
+use Rattle.std.specs.Slice.Iter.{iter_rest}
+use Rattle.sheet_limits.specs.Write.{runs_of}
 use Rattle.sheet_bytes.proofs.Writing.{Writing}
 use Rattle.sheet_bytes.proofs.write_runs.Given as goal
 
-abbrev pub invariant-loop-i : goal.invariant-loop-i
-invariant-loop-i l = Writing l.starts l.lengths l.from l.initial.out l.i l.out l.writer
-
-abbrev pub decreases-loop-i : goal.decreases-loop-i
-decreases-loop-i l = length l.starts - l.i
+abbrev pub invariant-loop-start : goal.invariant-loop-start
+invariant-loop-start l =
+    (goal.iterator-loop-start).can_next l.start-iterator
+    × ((goal.iterator-loop-start).is_finite l.start-iterator
+    × Writing (runs_of l.starts l.lengths) l.from l.initial.out l.out l.writer (iter_rest (zip_first l.start-iterator)) (iter_rest (zip_second l.start-iterator)))

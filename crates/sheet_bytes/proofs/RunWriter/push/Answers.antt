@@ -1,17 +1,10 @@
 -- A run that touches makes the last one longer; before another the last one is written.
-use mathlib.Core.Path.{ap}
-use Prim.Native.Nat.{ℕ, ◌+◌}
+use Rattle.std.proofs.Common.{refl}
 use Rattle.sheet_bytes.proofs.Writing.{took_touching, took_apart}
 use Rattle.sheet_bytes.proofs.RunWriter.push.Goals as goal
 
-pub returns-then-touches : goal.returns-then-touches
-returns-then-touches c =
-    let given = c.args in
-    took_touching given.self given.run _ c.touches.ensures _ c.last_after-self.ensures c.if-touches.true _
+pub returns-in-Some : goal.returns-in-Some
+returns-in-Some c = took_touching c.args.self c.args.run.run _ refl refl c.in-Some.ensures _
 
-pub returns : goal.returns
-returns c =
-    let given = c.args in
-    let wrote = c.write_run-at.ensures in
-    let end = ap (λ (first : ℕ). first + given.self.last.pages) c.number.ensures in
-    took_apart given.self given.run _ c.touches.ensures _ c.last_after-self.ensures c.if-touches.false wrote _ end
+pub returns-in-None : goal.returns-in-None
+returns-in-None c = took_apart c.args.self c.args.run.run c.in-None.ensures c.write_run.ensures _ refl c.end.ensures refl
