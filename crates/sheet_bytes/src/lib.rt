@@ -61,8 +61,10 @@ fn write_mode(out: &mut [u8], at: usize, mode: PagingMode) -> usize
     if let PagingMode::FourLevel = mode {
         return at;
     }
-    let a = varint::write_number(out, at, sheet::mode_number(mode));
-    varint::write_number(out, a, sheet::place_of(mode))
+    let number = sheet::mode_number(mode);
+    let place = sheet::place_of(mode);
+    let a = varint::write_number(out, at, number);
+    varint::write_number(out, a, place)
 }
 
 // Writes the joined runs from a place on, and answers the place after them.

@@ -1,88 +1,63 @@
--- What the judging pass answers, and what the call makes of it.
-use Rattle.std.specs.Prelude.{if◌then◌else◌}
-use mathlib.Core.Path.{◌≡◌, refl, sym, ap, ◌∙◌}
+-- What was judged: the two refusals, and that the header of what is in order is ready to be written.
+use Rattle.std.specs.Prelude.{Result, Ok, Err, if◌then◌else◌}
+use mathlib.Core.Path.{◌≡◌, refl, ap}
 use mathlib.Core.Bool.{Bool, true, false, not}
 use mathlib.Core.List.{List}
 use Prim.Native.Nat.{ℕ}
-use native.Mathlib.Omega.{arith}
 use lib.Dec.{leb}
 use lib.ListN.{length}
-use Rattle.base.specs.Written.{not_written, unwritten}
+use Rattle.base.specs.Written.{unwritten}
 use Rattle.base.specs.declared.Refusal.{Refusal}
 use Rattle.base.specs.declared.Refusal.TheVariants.{OutOfLimits, BadRun}
-use Rattle.base.specs.declared.Written.{Written}
 use Rattle.base.proofs.Test.{both_true}
 use Rattle.entry.specs.Pages.{frame}
-use Rattle.entry.specs.declared.Frame.{Frame}
-use Rattle.entry.specs.declared.PagingMode.{PagingMode}
 use Rattle.sheet.specs.Sheet.{is_place, paging_mode}
 use Rattle.sheet.specs.declared.Header.{Header}
 use Rattle.sheet.proofs.Modes.{in_page_lem}
 use Rattle.sheet_limits.specs.Write.{in_limits, runs_of, in_order, joined_runs, sound_runs}
 use Rattle.sheet_limits.proofs.Limits.{in_mode, limits}
 use Rattle.joined_runs.specs.Inner.{counted_runs}
-use Rattle.joined_runs.specs.declared.Judged.{Judged}
-use Rattle.joined_runs.specs.declared.Judged.TheVariants.{Runs, Refused}
 use Rattle.sheet_bytes.specs.Inner.{written_sheet, Ready}
-use Rattle.sheet_writer.specs.Call.{given_sheet, sheet_outcome, write_sheet, WriteAnswer}
-use Rattle.sheet_writer.specs.Inner.{judged_of}
-use Rattle.sheet_writer.proofs.Whole.{promise}
+use Rattle.sheet_writer.specs.Call.{given_sheet, sheet_outcome, write_sheet}
+use Rattle.sheet_writer.specs.Inner.{answered}
 
 module _ (directory mode place : ℕ) (starts lengths : List ℕ) where
-  pub out_of_limits : in_limits directory mode place starts lengths ≡ false → Refused OutOfLimits ≡ judged_of directory mode place starts lengths
-  out_of_limits h = rw h
+  pub out_of_limits : in_limits directory mode place starts lengths ≡ false → (old : List ℕ) → answered (Err OutOfLimits) old ≡ write_sheet directory mode place starts lengths old
+  unfolding write_sheet
+  out_of_limits h old = rw h
 
-  pub in_limits_lem : in_limits directory mode place starts lengths ≡ true → (v : Judged) → v ≡ counted_runs (runs_of starts lengths) → v ≡ judged_of directory mode place starts lengths
-  in_limits_lem h v e = rw h e
-
-  module _ (v : Judged) (e : v ≡ judged_of directory mode place starts lengths) where
-    pub record Accepted (n : ℕ) : Type 0 where
-      pub in_limits_lem : in_limits directory mode place starts lengths ≡ true
-      pub keeps_rules : sound_runs (runs_of starts lengths) ≡ true
-      pub count : n ≡ length (joined_runs (runs_of starts lengths))
-
-    pub accepted : (n : ℕ) → v ≡ Runs n → Accepted n
-    accepted n f = go (in_limits directory mode place starts lengths) (sound_runs (runs_of starts lengths)) refl refl (sym f ∙ e)
-      where
-        go : (a b : Bool) → in_limits directory mode place starts lengths ≡ a → sound_runs (runs_of starts lengths) ≡ b
-            → Runs n ≡ (if not a then Refused OutOfLimits else if b then Runs (length (joined_runs (runs_of starts lengths))) else Refused BadRun) → Accepted n
-        go false b h k g = absurd (let z : ◌≡◌ {A = ℕ} 0 1 = cc in omega arith)
-        go true false h k g = absurd (let z : ◌≡◌ {A = ℕ} 0 1 = cc in omega arith)
-        go true true h k g = record { in_limits_lem = h; keeps_rules = k; count = cc }
-
-    pub refused : (x : Refusal) → v ≡ Refused x → (old : List ℕ) (r : Written) → r ≡ not_written x → WriteAnswer directory mode place starts lengths old r old
+  module _ (h : in_limits directory mode place starts lengths ≡ true) where
+    pub bad_run : (x : Refusal) → Err x ≡ counted_runs (runs_of starts lengths) → (old : List ℕ) → answered (Err x) old ≡ write_sheet directory mode place starts lengths old
     unfolding write_sheet
-    refused x f old r g = promise directory mode place starts lengths old r old (rw g (go (in_limits directory mode place starts lengths) (sound_runs (runs_of starts lengths)) (sym f ∙ e)))
+    bad_run x e old = rw h (go (sound_runs (runs_of starts lengths)) e)
       where
-        go : (a b : Bool) → Refused x ≡ (if not a then Refused OutOfLimits else if b then Runs (length (joined_runs (runs_of starts lengths))) else Refused BadRun)
-            → unwritten old x ≡ (if not a then unwritten old OutOfLimits else if not b then unwritten old BadRun else sheet_outcome (given_sheet directory mode place starts lengths) old)
-        go false b y =
-            let same : x ≡ OutOfLimits = cc in
-            ap (unwritten old) same
-        go true false y =
-            let same : x ≡ BadRun = cc in
-            ap (unwritten old) same
-        go true true y = absurd (let z : ◌≡◌ {A = ℕ} 0 1 = cc in omega arith)
+        go : (b : Bool) → Err x ≡ (if b then Ok (length (joined_runs (runs_of starts lengths))) else Err BadRun)
+            → answered (Err x) old ≡ (if not b then unwritten old BadRun else sheet_outcome (given_sheet directory mode place starts lengths) old)
+        go true y = absurd (cc)
+        go false y = let same : x ≡ BadRun = cc in ap (unwritten old) same
 
-    module _ (n : ℕ) (f : v ≡ Runs n) (page : Frame) (ep : page ≡ frame directory) (paging : PagingMode) (em : paging ≡ paging_mode mode place) where
-      abbrev header : Header
-      header = record { space = record { directory = page; mode = paging }; count = n }
+    module _ (n : ℕ) (e : Ok n ≡ counted_runs (runs_of starts lengths)) where
+      sound : (sound_runs (runs_of starts lengths) ≡ true) × (n ≡ length (joined_runs (runs_of starts lengths)))
+      sound = go (sound_runs (runs_of starts lengths)) e
+        where
+          go : (b : Bool) → Ok n ≡ (if b then Ok (length (joined_runs (runs_of starts lengths))) else Err BadRun) → (b ≡ true) × (n ≡ length (joined_runs (runs_of starts lengths)))
+          go true y = (refl, cc)
+          go false y = absurd (cc)
+
+      abbrev pub header : Header
+      header = record { space = record { directory = frame directory; mode = paging_mode mode place }; count = n }
 
       pub ready : Ready header starts lengths
       ready =
-          let q = accepted n f in
-          let p = limits directory mode place starts lengths q.in_limits_lem in
+          let p = limits directory mode place starts lengths h in
           record {
-            directory = rw ep p.0;
-            place = rw em (in_page_lem mode place (both_true (leb mode 2) (is_place mode place) (in_mode directory mode place starts lengths q.in_limits_lem)).1);
+            directory = p.0;
+            place = in_page_lem mode place (both_true (leb mode 2) (is_place mode place) (in_mode directory mode place starts lengths h)).1;
             given = p.1;
-            order = (both_true (in_order 0 (runs_of starts lengths)) _ q.keeps_rules).0;
-            count = q.count;
+            order = (both_true (in_order 0 (runs_of starts lengths)) _ sound.0).0;
+            count = sound.1;
           }
 
-      pub judged : (old : List ℕ) (r : Written) (new : List ℕ)
-          → record { answer = r; buffer = new } ≡ sheet_outcome (written_sheet header starts lengths) old → WriteAnswer directory mode place starts lengths old r new
+      pub judged : (old new : List ℕ) (r : Result ℕ Refusal) → answered r new ≡ sheet_outcome (written_sheet header starts lengths) old → answered r new ≡ write_sheet directory mode place starts lengths old
       unfolding write_sheet
-      judged old r new y =
-          let q = accepted n f in
-          promise directory mode place starts lengths old r new (rw (q.in_limits_lem, q.keeps_rules) (rw (ep, em) at y))
+      judged old new r y = rw (h, sound.0) y

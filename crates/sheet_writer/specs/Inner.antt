@@ -1,10 +1,13 @@
--- What judging answers: 12, or what counting the given runs does.
-use Rattle.std.specs.Prelude.{ℕ, not, List, if◌then◌else◌}
-use Rattle.base.specs.declared.Refusal.TheVariants.{OutOfLimits}
-use Rattle.sheet_limits.specs.Write.{in_limits, runs_of}
-use Rattle.joined_runs.specs.Inner.{counted_runs}
-use Rattle.joined_runs.specs.declared.Judged.{Judged}
-use Rattle.joined_runs.specs.declared.Judged.TheVariants.{Refused}
+-- What the call answers for the length of what was written, or for a refusal.
+use Rattle.std.specs.Prelude.{ℕ, List, Result, Ok, Err}
+use Rattle.base.specs.Written.{WriteOutcome, not_written}
+use Rattle.base.specs.declared.Refusal.{Refusal}
+use Rattle.base.specs.declared.Written.{Written}
 
-abbrev pub judged_of : ℕ → ℕ → ℕ → List ℕ → List ℕ → Judged
-judged_of directory mode place starts lengths = if not (in_limits directory mode place starts lengths) then Refused OutOfLimits else counted_runs (runs_of starts lengths)
+abbrev pub answer_of : Result ℕ Refusal → Written
+answer_of (Ok n) = record { number = 0; length = n }
+answer_of (Err r) = not_written r
+
+-- with the lent buffer after it
+abbrev pub answered : Result ℕ Refusal → List ℕ → WriteOutcome
+answered r out = record { answer = answer_of r; buffer = out }

@@ -1,17 +1,13 @@
--- A buffer that no sheet is longer than is written at once. Else the measuring pass writes nothing into its empty part, and the second pass writes the sheet where the first found it to fit.
-use lib.ListN.{length-take}
-use native.Mathlib.Omega.{arith}
-use Rattle.sheet_writer.proofs.Passes.{room_enough, short_sheet, full_sheet}
+-- A buffer that no sheet is longer than is written at once; in another the sheet was measured and fits.
+use Rattle.std.proofs.Common.{◌≤◌, length, arith}
+use Rattle.sheet_limits.specs.Write.{sheet_bytes}
+use Rattle.sheet_bytes.specs.Inner.{written_sheet}
+use Rattle.sheet_writer.proofs.Passes.{sheet_most, full_sheet}
+use Rattle.sheet_writer.proofs.write_judged.Goals.{then-out-lt-SHEET_BYTES+else-out-length, else-out-lt-SHEET_BYTES}
 use Rattle.sheet_writer.proofs.write_judged.Goals as goal
 
-pub returns-then-out-ge-SHEET_BYTES : goal.returns-then-out-ge-SHEET_BYTES
-returns-then-out-ge-SHEET_BYTES c = room_enough c.requires (omega (arith, c.if-out-ge-SHEET_BYTES.true)) c.write_fields-written.ensures
-
-pub slice_bounds-write_fields-end-2 : goal.slice_bounds-write_fields-end-2
-slice_bounds-write_fields-end-2 c = simp length-take (omega arith)
-
-pub returns-then-out-length : goal.returns-then-out-length
-returns-then-out-length c = short_sheet _ _ _ _ c.write_fields-length.ensures c.if-out-length.true _ c.not_written.ensures
-
 pub returns : goal.returns
-returns c = full_sheet _ _ _ _ c.write_fields-length.ensures c.if-out-length.false _ _ c.write_fields.ensures
+returns c =
+    let sheet = written_sheet c.args.header c.args.starts.now c.args.lengths.now in
+    let fits : length (sheet_bytes sheet) ≤ length c.args.out.now = elim c.if-out-lt-SHEET_BYTES.branch [ then-out-lt-SHEET_BYTES+else-out-length w ↦ omega (arith, w.write_fields-length.ensures.place, w.if-out-length.false) | else-out-lt-SHEET_BYTES w ↦ omega (arith, sheet_most c.requires) ] in
+    full_sheet sheet fits c.write_fields.ensures
