@@ -5,7 +5,7 @@ ghost use Rattle.std.specs.Prelude.{◌≡◌, ◌+◌, ◌≤◌, ◌<◌, ◌^
 ghost use Rattle.std.specs.Option.{option_map};
 ghost use Rattle.std.specs.Result.{result_map_both};
 ghost use Rattle.sheet.specs.Sheet.{end_of};
-ghost use Rattle.sheet_limits.specs.Write.{runs_of};
+ghost use Rattle.sheet_limits.specs.Write.{runs_of, touches};
 ghost use Rattle.sheet_limits.specs.Inner.{Given};
 ghost use Rattle.joined_runs.specs.Inner.{given_run, counted_runs, run_after, joined_run};
 
@@ -49,15 +49,22 @@ pub fn count_runs(starts: &[u64], lengths: &[u64]) -> Result<usize, Refusal>
     Ok(count)
 }
 
+// The run of a start and a length, in pages.
+pub fn given_run(start: u64, pages: u64) -> Run
+    ensures { result ≡ given_run start pages }
+{
+    let first = Frame::numbered(start);
+    Run { first, pages }
+}
+
 impl RunBelowTop {
-    // The run of a start and a length, in pages.
+    // The same, where it ends below the top.
     pub fn given(start: u64, pages: u64) -> RunBelowTop
         requires { start + pages ≤ 2 ^ 36 }
         ensures { result.run ≡ given_run start pages }
     {
-        let first = Frame::numbered(start);
         RunBelowTop {
-            run: Run { first, pages },
+            run: given_run(start, pages),
         }
     }
 
@@ -79,11 +86,18 @@ impl RunBelowTop {
         self.run.first.number() + self.run.pages
     }
 
-    // This run and the next as one, where the next starts at the end of this one.
+    // Does a run start at the end of this one?
+    pub fn touches(self, next: Run) -> bool
+        ensures { result ≡ touches self.run next }
+    {
+        self.end() == next.first.number()
+    }
+
+    // This run and the next as one, where they touch.
     pub fn joined_with(self, next: RunBelowTop) -> Option<RunBelowTop>
         ensures { option_map (λ r. r.run) result ≡ joined_run self.run next.run }
     {
-        if self.end() != next.run.first.number() {
+        if !self.touches(next.run) {
             return None;
         }
         Some(RunBelowTop {
