@@ -1,13 +1,15 @@
 -- What opening a case hands back.
-use Rattle.std.specs.Prelude.{◌≡◌, List, ℕ, ◌*◌, length}
+use Rattle.std.specs.Prelude.{◌≡◌, List, ℕ, ◌*◌, length, Result, Ok, Err}
 use Rattle.varint.specs.Reader.{Read, got, refused}
 use Rattle.base.specs.Refusal.{unplaced}
+use Rattle.base.specs.declared.Refusal.{Refusal}
 use Rattle.base.specs.declared.Refusal.TheVariants.{ModeNotServed}
 use Rattle.entry.specs.declared.PagingMode.{PagingMode}
 use Rattle.entry.specs.declared.PagingMode.TheVariants.{FourLevel, Plain, Pae}
 use Rattle.sheet.specs.Sheet.{Sheet}
 use Rattle.sheet.specs.declared.AddressSpace.{AddressSpace}
 use Rattle.sheet.specs.Call.{RowsLaid}
+use Rattle.resolution.specs.declared.OpenCase.{OpenCase}
 use Rattle.case.specs.Case.{Case, check_of}
 use Rattle.case.specs.declared.Opened.{Opened}
 use Rattle.case.specs.declared.Opened.TheVariants.{Ready, Refused}
@@ -35,3 +37,9 @@ abbrev pub served_of : AddressSpace → ℕ → PagingMode → Opened
 served_of space n FourLevel = Ready space n
 served_of space n Plain = Refused (unplaced ModeNotServed)
 served_of space n (Pae place) = Refused (unplaced ModeNotServed)
+
+-- an opened case, for a call that serves four levels alone
+abbrev pub four_levels_case : PagingMode → OpenCase → Result OpenCase Refusal
+four_levels_case FourLevel c = Ok c
+four_levels_case Plain c = Err ModeNotServed
+four_levels_case (Pae place) c = Err ModeNotServed

@@ -3,7 +3,6 @@ use mathlib.Core.Path.{◌≡◌, refl, sym, ap, ◌∙◌}
 use mathlib.Core.List.{List, [], ◌∷◌, ◌++◌, append_assoc, append-nil}
 use mathlib.Core.Bool.{Bool, true, false, ◌||◌}
 use Prim.Native.Nat.{ℕ, zero, suc, ◌+◌, ◌-◌, ◌*◌, ◌/◌, ◌%◌, ◌^◌, ◌≤◌, ◌<◌, min}
-use native.Mathlib.Nat.{le-min}
 use native.Mathlib.Numerals.{add-one}
 use native.Mathlib.Omega.{arith}
 use lib.ListN.{length, take, drop, replicate, length-append, length-drop, length-replicate}
@@ -11,20 +10,18 @@ use lib.Seq.{sets, length-sets, length-take-le}
 use Rattle.base.specs.declared.Refusal.{Refusal}
 use Rattle.base.specs.declared.Refusal.TheVariants.{NotCanonical}
 use Rattle.base.proofs.Overlay.{sets_append}
-use Rattle.sheet.specs.declared.AddressSpace.{AddressSpace}
 use Rattle.walk.specs.Walk.{World, resolve_of}
 use Rattle.entry.proofs.Addresses.{past_top as unreachable}
-use Rattle.walk.specs.Rows.{rows_world, resolved_of}
 use Rattle.walk.specs.declared.Place.{Place}
 use Rattle.walk.specs.declared.Place.TheVariants.{Image, Pagefile, Zeros, Refused}
-use Rattle.walk.specs.declared.Resolved.{Resolved}
 use Rattle.walk.proofs.SamePage.{moved, same_page}
 use Rattle.walk.proofs.Ground.{At, resolve_at}
 use Rattle.walk.proofs.Cycle.{body, sound_rows}
+use Rattle.resolution.specs.Open.{open_world}
+use Rattle.resolution.specs.declared.OpenCase.{OpenCase}
 use Rattle.reading.specs.Bytes.{Bytes, bytes, refused, before, byte_then, bytes_of}
 use Rattle.reading.specs.Inner.{piece_of, PieceInside, filled_of, BytesLaid, FilledWith}
-use Rattle.reading.specs.declared.Filled.{Filled}
-use Rattle.reading.specs.declared.Filled.TheVariants as filled_as
+use Rattle.std.proofs.Common.{Result, Ok, Err}
 
 -- ---- the next byte of the page
 
@@ -142,7 +139,7 @@ module _ {w : World} {a n : ℕ} {old : List ℕ} {i : ℕ} {zeros : Bool} {out 
   pub filling_long : length out ≡ length old
   filling_long = rw q.laid (length-sets old 0 q.done)
 
-  pub at_top : i < n → 2 ^ 64 ≤ a + i → FilledWith (bytes_of n w a) 0 old (filled_as.Refused NotCanonical) out
+  pub at_top : i < n → 2 ^ 64 ≤ a + i → FilledWith (bytes_of n w a) 0 old (Err NotCanonical) out
   at_top h t =
       let e : n - i ≡ suc (n - i - 1) = omega arith in
       let none : bytes_of n w a ≡ refused NotCanonical = q.same ∙ rw (e, past_top w (n - i - 1) (a + i) t) in
@@ -163,21 +160,21 @@ module _ {w : World} {a n : ℕ} {old : List ℕ} {i : ℕ} {zeros : Bool} {out 
         ∙ ap (λ (k : ℕ). before q.done zeros (and_then (piece_of w.image w.pagefile (suc (m - 1)) place) (bytes_of (n - (i + m)) w k))) g
         ∙ ap (λ (k : ℕ). before q.done zeros (and_then (piece_of w.image w.pagefile k place) (bytes_of (n - (i + m)) w (a + (i + m))))) (sym e)
 
-    module _ (r : Filled) (new : List ℕ) (f : FilledWith (piece_of w.image w.pagefile m place) i out r new) where
-      pub page_refused : (x : Refusal) → r ≡ filled_as.Refused x → FilledWith (bytes_of n w a) 0 old (filled_as.Refused x) new
+    module _ (r : Result Bool Refusal) (new : List ℕ) (f : FilledWith (piece_of w.image w.pagefile m place) i out r new) where
+      pub page_refused : (x : Refusal) → r ≡ Err x → FilledWith (bytes_of n w a) 0 old (Err x) new
       page_refused x e = go (piece_of w.image w.pagefile m place) refl (sym f.answer ∙ e) f.buffer
         where
-          go : (b : Bytes) → piece_of w.image w.pagefile m place ≡ b → filled_of b ≡ filled_as.Refused x → BytesLaid out i b new → FilledWith (bytes_of n w a) 0 old (filled_as.Refused x) new
+          go : (b : Bytes) → piece_of w.image w.pagefile m place ≡ b → filled_of b ≡ Err x → BytesLaid out i b new → FilledWith (bytes_of n w a) 0 old (Err x) new
           go (bytes xs z) h g l = absurd (let z : ◌≡◌ {A = ℕ} 0 1 = cc in omega arith)
           go (refused y) h g l =
               let same : y ≡ x = cc in
               let none : bytes_of n w a ≡ refused x = split ∙ rw (h, same) in
               record { answer = rw none; buffer = rw none (l ∙ filling_long) }
 
-      pub page_laid : (z : Bool) → r ≡ filled_as.AllRead z → PieceInside w.image w.pagefile m place → Filling w a n old (i + m) (zeros || z) new
+      pub page_laid : (z : Bool) → r ≡ Ok z → PieceInside w.image w.pagefile m place → Filling w a n old (i + m) (zeros || z) new
       page_laid z e inside = go (piece_of w.image w.pagefile m place) refl (sym f.answer ∙ e) f.buffer
         where
-          go : (b : Bytes) → piece_of w.image w.pagefile m place ≡ b → filled_of b ≡ filled_as.AllRead z → BytesLaid out i b new → Filling w a n old (i + m) (zeros || z) new
+          go : (b : Bytes) → piece_of w.image w.pagefile m place ≡ b → filled_of b ≡ Ok z → BytesLaid out i b new → Filling w a n old (i + m) (zeros || z) new
           go (refused y) h g l = absurd (let z : ◌≡◌ {A = ℕ} 0 1 = cc in omega arith)
           go (bytes xs y) h g l =
               let same : y ≡ z = cc in
@@ -193,7 +190,7 @@ module _ {w : World} {a n : ℕ} {old : List ℕ} {i : ℕ} {zeros : Bool} {out 
               here : length q.done ≡ 0 + length q.done
               here = omega arith
 
-  pub filled : n ≤ i → FilledWith (bytes_of n w a) 0 old (filled_as.AllRead zeros) out
+  pub filled : n ≤ i → FilledWith (bytes_of n w a) 0 old (Ok zeros) out
   unfolding bytes_of
   filled h =
       let e : n - i ≡ 0 = omega arith in
@@ -205,21 +202,17 @@ module _ {w : World} {a n : ℕ} {old : List ℕ} {i : ℕ} {zeros : Bool} {out 
       or_false false = refl
 
 -- a piece within the page lies in its file
-pub piece_at : (rows : List ℕ) (space : AddressSpace) (image pagefile : List ℕ) (a m : ℕ) → a % 4096 + m ≤ 4096 → PieceInside image pagefile m (resolve_of 3 (rows_world rows space image pagefile) a).place
-piece_at rows space image pagefile a m h =
-    go (resolve_of 3 (rows_world rows space image pagefile) a).place (resolve_at (rows_world rows space image pagefile) (sound_rows rows space image pagefile) 3 a)
+pub piece_at : (o : OpenCase) (a m : ℕ) → a % 4096 + m ≤ 4096 → PieceInside o.image.now o.pagefile.now m (resolve_of 3 (open_world o) a).place
+piece_at o a m h = go (resolve_of 3 (open_world o) a).place (resolve_at (open_world o) (sound_rows o.rows.now o.space o.image.now o.pagefile.now) 3 a)
   where
-    go : (p : Place) → At (rows_world rows space image pagefile) a p → PieceInside image pagefile m p
-    go (Image o) g = omega (arith, g.0, g.1)
-    go (Pagefile o) g = omega (arith, g.0, g.1)
+    go : (p : Place) → At (open_world o) a p → PieceInside o.image.now o.pagefile.now m p
+    go (Image x) g = omega (arith, g.0, g.1)
+    go (Pagefile x) g = omega (arith, g.0, g.1)
     go Zeros g = tt
     go (Refused r) g = tt
 
-pub piece_inside : (rows : List ℕ) (space : AddressSpace) (image pagefile : List ℕ) (a m : ℕ) (v : Resolved) → v ≡ resolved_of (resolve_of 3 (rows_world rows space image pagefile) a) → a % 4096 + m ≤ 4096 → PieceInside image pagefile m v.place
-piece_inside rows space image pagefile a m v e h = rw (ap (λ (z : Resolved). z.place) e) (piece_at rows space image pagefile a m h)
-
 -- filling keeps the buffer's length
-pub fills_long : {b : Bytes} {at : ℕ} {old : List ℕ} {r : Filled} {new : List ℕ} → FilledWith b at old r new → length new ≡ length old
+pub fills_long : {b : Bytes} {at : ℕ} {old : List ℕ} {r : Result Bool Refusal} {new : List ℕ} → FilledWith b at old r new → length new ≡ length old
 fills_long {b} {at} {old} {r} {new} f = go b f.buffer
   where
     go : (b : Bytes) → BytesLaid old at b new → length new ≡ length old
@@ -227,14 +220,8 @@ fills_long {b} {at} {old} {r} {new} f = go b f.buffer
     go (refused x) l = l
 
 -- the piece that the code takes of a page: some bytes, up to the page's end
-pub some_piece : (a n i m : ℕ) → i < n → m ≡ min (4096 - a % 4096) (n - i) → 1 ≤ m
-some_piece a n i m h e = rw e (le-min (omega arith) (omega arith))
+pub some_piece : (a n i m : ℕ) → i < n → m ≡ min (4096 - a % 4096) (n - i) → (1 ≤ m) × (m ≤ n - i)
+some_piece a n i m h e = (omega arith, omega arith)
 
-pub page_piece : (a m : ℕ) → m ≤ 4096 - a % 4096 → a % 4096 + m ≤ 4096
-page_piece a m h = omega arith
-
--- laying at the place that the code resolved
-pub at_place : (rows : List ℕ) (space : AddressSpace) (image pagefile : List ℕ) (a m : ℕ) (v : Resolved) → v ≡ resolved_of (resolve_of 3 (rows_world rows space image pagefile) a)
-    → {at : ℕ} {old : List ℕ} (r : Filled) (new : List ℕ) → FilledWith (piece_of image pagefile m v.place) at old r new
-    → FilledWith (piece_of image pagefile m (resolve_of 3 (rows_world rows space image pagefile) a).place) at old r new
-at_place rows space image pagefile a m v e r new f = rw (ap (λ (z : Resolved). z.place) e) at f
+pub page_piece : (a n i m : ℕ) → m ≡ min (4096 - a % 4096) (n - i) → a % 4096 + m ≤ 4096
+page_piece a n i m e = omega arith

@@ -3,10 +3,10 @@ use native.Mathlib.Omega.{arith}
 use Rattle.address.proofs.Answers.{one_run_answered, told_end}
 use Rattle.address.proofs.resolve_address.Goals as goal
 
-pub overflow_add-end : goal.overflow_add-end
-overflow_add-end c = omega (arith, c.number-first.ensures, told_end _ _ _ _ _ _ _ c.read_one_run.ensures c.in-Fields.is)
+pub overflow_add-row : goal.overflow_add-row
+overflow_add-row c = omega (arith, c.number-first.ensures, told_end _ _ _ _ _ _ _ c.read_one_run.ensures c.in-Fields.is)
 
 pub returns-in-Fields : goal.returns-in-Fields
 returns-in-Fields c =
-    rw c.answer_of.ensures
-    (one_run_answered _ _ _ _ _ _ c.read_one_run.ensures c.in-Fields.is c.number-first.ensures _ c.resolve_four_level-found.ensures)
+    rw c.into.ensures
+    (one_run_answered _ _ _ _ _ _ c.read_one_run.ensures c.in-Fields.is c.number-first.ensures _ c.resolve.ensures)

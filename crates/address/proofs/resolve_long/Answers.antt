@@ -1,15 +1,10 @@
--- 96 numbers are enough for the rows of a sheet with few runs, 3,000 for those of any.
-use mathlib.Core.Path.{sym, ◌∙◌}
-use Rattle.case.specs.Case.{case_of}
-use Rattle.case.proofs.Opening.{enough_numbers, enough_for_few}
+-- What the opened case answers is what the address call says of the case.
+use Rattle.std.proofs.Common.{rules}
+use Rattle.address.proofs.Answers.{answered}
 use Rattle.address.proofs.resolve_long.Goals as goal
 
-pub resolve_over-requires : goal.resolve_over-requires
-resolve_over-requires c =
-    let args = c.args in
-    enough_for_few (case_of args.sheet.now args.image.now args.pagefile.now) (sym c.has_few_runs.ensures ∙ c.if-has_few_runs.true)
+pub returns-in-Ok : goal.returns-in-Ok
+returns-in-Ok c = rw c.in-Ok.is at (answered _ c.args.address _ _ _ _ c.with_case-answer.ensures (λ o lent left x h. search rules))
 
-pub resolve_over-requires-2 : goal.resolve_over-requires-2
-resolve_over-requires-2 c =
-    let args = c.args in
-    enough_numbers (case_of args.sheet.now args.image.now args.pagefile.now)
+pub returns-in-Err : goal.returns-in-Err
+returns-in-Err c = rw c.into.ensures (rw c.in-Err.is at (answered _ c.args.address _ _ _ _ c.with_case-answer.ensures (λ o lent left x h. search rules)))

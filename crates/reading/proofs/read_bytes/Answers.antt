@@ -1,15 +1,14 @@
--- 96 numbers are enough for the rows of a sheet with few runs, 3,000 for those of any.
-use mathlib.Core.Path.{sym, ◌∙◌}
-use Rattle.case.specs.Case.{case_of}
-use Rattle.case.proofs.Opening.{enough_numbers, enough_for_few}
+-- What is read of the opened case is what the read call says of the case.
+use Rattle.std.proofs.Common.{rules}
+use Rattle.reading.proofs.TwoPasses.{read_answer, told}
 use Rattle.reading.proofs.read_bytes.Goals as goal
 
-pub read_over-requires : goal.read_over-requires
-read_over-requires c =
-    let args = c.args in
-    enough_for_few (case_of args.sheet.now args.image.now args.pagefile.now) (sym c.has_few_runs.ensures ∙ c.if-has_few_runs.true)
+pub returns-in-Ok : goal.returns-in-Ok
+returns-in-Ok c =
+    let read = read_answer _ c.args.address c.args.n _ _ _ _ c.with_case-read.ensures (λ o lent left r h. search rules) in
+    rw (c.from.ensures, told c.in-Ok.zeros) (rw c.in-Ok.is at read)
 
-pub read_over-requires-2 : goal.read_over-requires-2
-read_over-requires-2 c =
-    let args = c.args in
-    enough_numbers (case_of args.sheet.now args.image.now args.pagefile.now)
+pub returns-in-Err : goal.returns-in-Err
+returns-in-Err c =
+    let read = read_answer _ c.args.address c.args.n _ _ _ _ c.with_case-read.ensures (λ o lent left r h. search rules) in
+    rw c.into.ensures (rw c.in-Err.is at read)
