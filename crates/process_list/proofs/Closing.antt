@@ -1,5 +1,5 @@
 -- A list is accepted exactly if it closes, forward and back; its nodes are all different and none is the head.
-use Rattle.std.specs.Prelude.{if◌then◌else◌}
+use Rattle.std.specs.Prelude.{if◌then◌else◌, Result, Ok, Err}
 use mathlib.Core.Path.{◌≡◌, refl, sym, ap, ◌∙◌}
 use mathlib.Core.Bool.{Bool, true, false}
 use mathlib.Core.List.{List, [], ◌∷◌}
@@ -15,20 +15,17 @@ use Rattle.base.specs.declared.Refusal.{Refusal}
 use Rattle.base.specs.declared.Refusal.TheVariants.{ListBufferShort, TooManyProcesses, LinkUnaligned}
 use Rattle.base.proofs.Numbers.{ten_or_more}
 use Rattle.walk.specs.Walk.{World}
-use Rattle.process_list.specs.declared.Linked.{Linked}
-use Rattle.process_list.specs.declared.Linked.TheVariants.{Address}
-use Rattle.process_list.specs.declared.Linked.TheVariants as linked
-use Rattle.process_list.specs.List.{next_node, Nodes, nodes, refused, and_node, unless_head, nodes_after, nodes_of}
+use Rattle.process_list.specs.List.{and_then, aligned, next_node, Nodes, nodes_after, nodes_of}
 use Rattle.process_list.specs.Call.{nodes_outcome}
 use Rattle.process_list.specs.Exact.{Follows, Closes, Absent, AllDifferent, ClosedList, ExactList}
-use Rattle.process_list.proofs.Links.{follows_next, next_follows}
+use Rattle.process_list.proofs.Links.{then_ok, if_ok, follows_next, next_follows}
 
 -- ---- all different
 
 module _ (w : World) (h : ℕ) where
   -- a forward word leads to one node
   one_next : (x y z : ℕ) → Follows w x y → Follows w x z → y ≡ z
-  one_next x y z p q = let e : Address y ≡ Address z = sym p.forward ∙ q.forward in cc
+  one_next x y z p q = let e : Ok y ≡ Ok z = sym p.forward ∙ q.forward in cc
 
   one_length : (x : ℕ) (xs ys : List ℕ) → Closes w h x xs → Closes w h x ys → length xs ≡ length ys
   one_length x [] [] p q = refl
@@ -59,55 +56,43 @@ pub record Found (w : World) (n room h x : ℕ) (xs : List ℕ) : Type 0 where
   pub most : length xs ≤ n
   pub fits : length xs ≤ room
 
-refused_is_no_list : (r : Refusal) (xs : List ℕ) {A : Type 0} → refused r ≡ nodes xs → A
-refused_is_no_list r xs e = absurd (let z : ◌≡◌ {A = ℕ} 0 1 = cc in omega arith)
+else_ok : {A : Type 0} (t : Bool) (r : Refusal) (l : Result A Refusal) (x : A) → (if t then Err r else l) ≡ Ok x → (t ≡ false) × (l ≡ Ok x)
+else_ok true r l x e = cc
+else_ok false r l x e = (refl, e)
 
 module _ (w : World) (h : ℕ) where
-  nodes_close : (n room x : ℕ) (xs : List ℕ) → nodes_after n w room h x ≡ nodes xs → Found w n room h x xs
+  at_head : (n room x y : ℕ) (xs : List ℕ) → next_node w x ≡ Ok y → eqb y h ≡ true → [] ≡ xs → Found w n room h x xs
+  at_head n room x y xs f t e =
+      let same : y ≡ h = eqb-true y h t in
+      rw (← e) (record { closes = rw same at (next_follows w x y f); most = omega arith; fits = omega arith })
+
+  nodes_close : (n room x : ℕ) (xs : List ℕ) → nodes_after n w room h x ≡ Ok xs → Found w n room h x xs
   unfolding nodes_after
-  nodes_close zero room x xs e = link (next_node w x) refl e
+  nodes_close zero room x xs e =
+      let (y, f, g) = then_ok (next_node w x) _ xs e in
+      let (t, none) = if_ok (eqb y h) [] xs TooManyProcesses g in
+      at_head zero room x y xs f t none
+  nodes_close (suc n) room x xs e =
+      let (y, f, g) = then_ok (next_node w x) _ xs e in
+      go y f (nodes_close n (room - 1) y) (eqb y h) refl g
     where
-      head : (y : ℕ) → next_node w x ≡ Address y → (t : Bool) → eqb y h ≡ t → (if t then nodes [] else refused TooManyProcesses) ≡ nodes xs → Found w 0 room h x xs
-      head y f true g k =
-          let none : [] ≡ xs = cc in
-          let same : y ≡ h = eqb-true y h g in
-          rw (← none) (record { closes = rw same at (next_follows w x y f); most = omega arith; fits = omega arith })
-      head y f false g k = refused_is_no_list TooManyProcesses xs k
-
-      link : (l : Linked) → next_node w x ≡ l → unless_head h (λ y. refused TooManyProcesses) l ≡ nodes xs → Found w 0 room h x xs
-      link (linked.Refused r) f k = refused_is_no_list r xs k
-      link (Address y) f k = head y f (eqb y h) refl k
-  nodes_close (suc n) room x xs e = link (nodes_close n (room - 1)) (next_node w x) refl e
-    where
-      rest : (y : ℕ) → next_node w x ≡ Address y → (y ≡ h → ⊥) → (room ≡ 0 → ⊥) → (ns : Nodes) → ((ys : List ℕ) → ns ≡ nodes ys → Found w n (room - 1) h y ys) → and_node y ns ≡ nodes xs → Found w (suc n) room h x xs
-      rest y f g z (nodes ys) deeper k =
+      go : (y : ℕ) → next_node w x ≡ Ok y → ((ys : List ℕ) → nodes_after n w (room - 1) h y ≡ Ok ys → Found w n (room - 1) h y ys) → (t : Bool) → eqb y h ≡ t
+          → (if t then Ok [] else (if eqb room 0 then Err ListBufferShort else and_then (nodes_after n w (room - 1) h y) (λ ys. Ok (y ∷ ys)))) ≡ Ok xs → Found w (suc n) room h x xs
+      go y f deeper true t g = at_head (suc n) room x y xs f t cc
+      go y f deeper false t g =
+          let (some, k) = else_ok (eqb room 0) ListBufferShort _ xs g in
+          let (ys, l, m) = then_ok (nodes_after n w (room - 1) h y) _ xs k in
           let more : y ∷ ys ≡ xs = cc in
-          let q : Found w n (room - 1) h y ys = deeper ys refl in
-          rw (← more) (record { closes = (next_follows w x y f, (g, q.closes)); most = omega (arith, q.most); fits = filled q.fits z })
+          let q : Found w n (room - 1) h y ys = deeper ys l in
+          let room_left : room ≡ 0 → ⊥ = eqb-false room 0 some in
+          rw (← more) (record { closes = (next_follows w x y f, (eqb-false y h t, q.closes)); most = omega (arith, q.most); fits = filled ys room_left q.fits })
         where
-          filled : length ys ≤ room - 1 → (room ≡ 0 → ⊥) → suc (length ys) ≤ room
-          filled l z = omega arith
-      rest y f g z (refused r) deeper k = refused_is_no_list r xs k
-
-      free : (y : ℕ) → next_node w x ≡ Address y → (y ≡ h → ⊥) → ((ys : List ℕ) → nodes_after n w (room - 1) h y ≡ nodes ys → Found w n (room - 1) h y ys) → (t : Bool) → eqb room 0 ≡ t
-          → (if t then refused ListBufferShort else and_node y (nodes_after n w (room - 1) h y)) ≡ nodes xs → Found w (suc n) room h x xs
-      free y f g deeper true z k = refused_is_no_list ListBufferShort xs k
-      free y f g deeper false z k = rest y f g (eqb-false room 0 z) (nodes_after n w (room - 1) h y) deeper k
-
-      head : ((y : ℕ) (ys : List ℕ) → nodes_after n w (room - 1) h y ≡ nodes ys → Found w n (room - 1) h y ys) → (y : ℕ) → next_node w x ≡ Address y → (t : Bool) → eqb y h ≡ t → (if t then nodes [] else (if eqb room 0 then refused ListBufferShort else and_node y (nodes_after n w (room - 1) h y))) ≡ nodes xs → Found w (suc n) room h x xs
-      head deeper y f true g k =
-          let none : [] ≡ xs = cc in
-          let same : y ≡ h = eqb-true y h g in
-          rw (← none) (record { closes = rw same at (next_follows w x y f); most = omega arith; fits = omega arith })
-      head deeper y f false g k = free y f (eqb-false y h g) (deeper y) (eqb room 0) refl k
-
-      link : ((y : ℕ) (ys : List ℕ) → nodes_after n w (room - 1) h y ≡ nodes ys → Found w n (room - 1) h y ys) → (l : Linked) → next_node w x ≡ l → unless_head h (λ y. if eqb room 0 then refused ListBufferShort else and_node y (nodes_after n w (room - 1) h y)) l ≡ nodes xs → Found w (suc n) room h x xs
-      link deeper (linked.Refused r) f k = refused_is_no_list r xs k
-      link deeper (Address y) f k = head deeper y f (eqb y h) refl k
+          filled : (ys : List ℕ) → (room ≡ 0 → ⊥) → length ys ≤ room - 1 → suc (length ys) ≤ room
+          filled ys z l = omega arith
 
   -- ---- and nodes that close are found
 
-  closes_nodes : (xs : List ℕ) (n room x : ℕ) → Closes w h x xs → length xs ≤ n → length xs ≤ room → nodes_after n w room h x ≡ nodes xs
+  closes_nodes : (xs : List ℕ) (n room x : ℕ) → Closes w h x xs → length xs ≤ n → length xs ≤ room → nodes_after n w room h x ≡ Ok xs
   unfolding nodes_after
   closes_nodes [] zero room x p l m = rw (follows_next w x h p, eq-eqb h h refl)
   closes_nodes [] (suc n) room x p l m = rw (follows_next w x h p, eq-eqb h h refl)
@@ -119,24 +104,18 @@ module _ (w : World) (h : ℕ) where
 -- ---- demand 2
 
 module _ (w : World) (h : ℕ) (old : List ℕ) where
-  head_first : (xs : List ℕ) → nodes_of w (length old) h ≡ nodes xs → (h % 8 ≡ 0) × (nodes_after 4096 w (length old) h h ≡ nodes xs)
+  closed_list : (xs : List ℕ) → nodes_of w (length old) h ≡ Ok xs → ClosedList w h xs × (length xs ≤ length old)
   unfolding nodes_of
-  head_first xs e = go (eqb (h % 8) 0) refl e
-    where
-      go : (t : Bool) → eqb (h % 8) 0 ≡ t → (if t then nodes_after 4096 w (length old) h h else refused LinkUnaligned) ≡ nodes xs → (h % 8 ≡ 0) × (nodes_after 4096 w (length old) h h ≡ nodes xs)
-      go true g k = (eqb-true (h % 8) 0 g, k)
-      go false g k = refused_is_no_list LinkUnaligned xs k
-
-  closed_list : (xs : List ℕ) → nodes_of w (length old) h ≡ nodes xs → ClosedList w h xs × (length xs ≤ length old)
   closed_list xs e =
-      let p = head_first xs e in
-      let q : Found w 4096 (length old) h h xs = nodes_close w h 4096 (length old) h xs p.1 in
-      (record { head = p.0; closes = q.closes; most = q.most }, q.fits)
+      let (x, f, g) = then_ok (aligned h) _ xs e in
+      let (t, same) = if_ok (eqb (h % 8) 0) h x LinkUnaligned f in
+      let q : Found w 4096 (length old) h h xs = nodes_close w h 4096 (length old) h xs (rw (← same) at g) in
+      (record { head = eqb-true (h % 8) 0 t; closes = q.closes; most = q.most }, q.fits)
 
   written_front : (xs : List ℕ) → length xs ≤ length old → take (length xs) (sets old 0 xs) ≡ xs
   written_front xs l = rw (sets-eq xs old 0 (omega arith)) (take_at xs (drop (0 + length xs) old) (length xs) refl)
 
-  complete_list : (xs : List ℕ) → ClosedList w h xs → length xs ≤ length old → nodes_of w (length old) h ≡ nodes xs
+  complete_list : (xs : List ℕ) → ClosedList w h xs → length xs ≤ length old → nodes_of w (length old) h ≡ Ok xs
   unfolding nodes_of
   complete_list xs q l = rw (eq-eqb (h % 8) 0 q.head) (closes_nodes w h xs 4096 (length old) h q.closes q.most l)
 
@@ -148,17 +127,17 @@ module _ (w : World) (h : ℕ) (old : List ℕ) where
 
       complete : (ns : Nodes) → nodes_of w (length old) h ≡ ns → (xs : List ℕ) → ClosedList w h xs → length xs ≤ length old → nodes_outcome old ns ≡ written old xs
       complete ns e xs q l =
-          let same : ns ≡ nodes xs = sym e ∙ complete_list xs q l in
+          let same : ns ≡ Ok xs = sym e ∙ complete_list xs q l in
           rw same
 
       go : (ns : Nodes) → nodes_of w (length old) h ≡ ns → ExactList w h old (nodes_outcome old ns)
-      go (refused r) e = record { sound = λ z. no_answer r z; fits = λ z. no_answer r z; different = λ z. no_answer r z; complete = complete (refused r) e }
-      go (nodes xs) e =
+      go (Err r) e = record { sound = λ z. no_answer r z; fits = λ z. no_answer r z; different = λ z. no_answer r z; complete = complete (Err r) e }
+      go (Ok xs) e =
           let p = closed_list xs e in
           let front : take (length xs) (sets old 0 xs) ≡ xs = written_front xs p.1 in
           record {
             sound = λ z. rw front p.0;
             fits = λ z. p.1;
             different = λ z. rw front (different_nodes w h h xs p.0.closes);
-            complete = complete (nodes xs) e;
+            complete = complete (Ok xs) e;
           }

@@ -1,4 +1,5 @@
 -- P11 of 01, for the statement over P1 to P12; and named inputs at which a wrong list would answer otherwise.
+use Rattle.std.specs.Prelude.{Ok, Err}
 use mathlib.Core.Path.{◌≡◌, refl}
 use mathlib.Core.List.{List, [], ◌∷◌, ◌++◌}
 use Prim.Native.Nat.{ℕ, ◌/◌, ◌%◌}
@@ -16,7 +17,7 @@ use Rattle.words.specs.Words.{little_at}
 use Rattle.sheet.specs.Sheet.{Sheet, space_at}
 use Rattle.walk.specs.Walk.{World, world_of, frame_in, settle_of, descend_of, resolve_of}
 use Rattle.case.specs.Case.{Case, check_of, by_check, served, in_four_levels}
-use Rattle.process_list.specs.List.{nodes, refused, link_of, next_node, nodes_after, nodes_of}
+use Rattle.process_list.specs.List.{link_of, next_node, nodes_after, nodes_of}
 use Rattle.process_list.specs.Call.{nodes_outcome, list_of}
 use Rattle.process_list.specs.Exact.{Follows}
 use Rattle.process_list.proofs.Closing.{exact_list}
@@ -48,7 +49,7 @@ LinksToItself x = in_four_levels x.case (λ r. ⊥) (λ w. Follows w x.head x.he
 pub p11 : List Example
 p11 =
     every LinksToItself (λ x. list_of x.case x.head x.buffer) (λ x. record { answer = record { number = 0; length = 0 }; buffer = x.buffer })
-    ∷ same (nodes_of (linked 0x100 0x100 0 0) 0 0x100) (nodes [])
+    ∷ same (nodes_of (linked 0x100 0x100 0 0) 0 0x100) (Ok [])
     ∷ []
 
 pub p11_holds : Hold p11
@@ -67,15 +68,15 @@ p11_holds = (λ x f. go x (served (check_of x.case)) f, (refl, tt))
 pub lists : List Example
 lists =
     -- the head's own back word is compared
-    same (nodes_of (linked 0x100 0x110 0 0) 0 0x100) (refused BackLinkDiffers)
+    same (nodes_of (linked 0x100 0x110 0 0) 0 0x100) (Err BackLinkDiffers)
     -- a node, with room for it and without
-    ∷ same (nodes_of (linked 0x110 0x110 0x100 0x100) 1 0x100) (nodes (0x110 ∷ []))
-    ∷ same (nodes_of (linked 0x110 0x110 0x100 0x100) 0 0x100) (refused ListBufferShort)
+    ∷ same (nodes_of (linked 0x110 0x110 0x100 0x100) 1 0x100) (Ok (0x110 ∷ []))
+    ∷ same (nodes_of (linked 0x110 0x110 0x100 0x100) 0 0x100) (Err ListBufferShort)
     -- back at the head, whose back word is not the node
-    ∷ same (nodes_of (linked 0x110 0x100 0x100 0x100) 1 0x100) (refused BackLinkDiffers)
+    ∷ same (nodes_of (linked 0x110 0x100 0x100 0x100) 1 0x100) (Err BackLinkDiffers)
     -- a node whose back word is not the head comes before the room
-    ∷ same (nodes_of (linked 0x110 0x110 0x100 0x110) 0 0x100) (refused BackLinkDiffers)
-    ∷ same (nodes_of (linked 0x114 0x110 0x100 0x100) 1 0x100) (refused LinkUnaligned)
+    ∷ same (nodes_of (linked 0x110 0x110 0x100 0x110) 0 0x100) (Err BackLinkDiffers)
+    ∷ same (nodes_of (linked 0x114 0x110 0x100 0x100) 1 0x100) (Err LinkUnaligned)
     ∷ []
 
 pub lists_hold : Hold lists

@@ -1,18 +1,18 @@
 -- What the list call hands back.
-use Rattle.std.specs.Prelude.{ℕ, ◌%◌, ◌≡◌, List, length}
+use Rattle.std.specs.Prelude.{ℕ, ◌%◌, ◌≡◌, List, Ok, Err, length}
 use Rattle.base.specs.Written.{WriteOutcome, unwritten, fault_outcome, written}
 use Rattle.base.specs.declared.Written.{Written}
 use Rattle.walk.specs.Walk.{resolve_of}
 use Rattle.walk.specs.Rows.{WordInside}
 use Rattle.case.specs.Case.{Case, in_four_levels, ForFourLevels}
 use Rattle.case.specs.Answer.{GroundedAt}
-use Rattle.process_list.specs.List.{Nodes, nodes, refused, nodes_of}
+use Rattle.process_list.specs.List.{Nodes, nodes_of}
 use Rattle.process_list.specs.Exact.{ExactList}
 
 -- a 64-bit number a node at the front of the lent buffer, and their count; or the refusal
 abbrev pub nodes_outcome : List ℕ → Nodes → WriteOutcome
-nodes_outcome out (nodes xs) = written out xs
-nodes_outcome out (refused r) = unwritten out r
+nodes_outcome out (Ok xs) = written out xs
+nodes_outcome out (Err r) = unwritten out r
 
 unfoldable pub list_of : Case → ℕ → List ℕ → WriteOutcome
 list_of c h out = in_four_levels c (fault_outcome out) (λ w. nodes_outcome out (nodes_of w (length out) h))

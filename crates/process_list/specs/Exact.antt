@@ -1,15 +1,14 @@
 -- Demand 2 of a process list: it is accepted exactly if its links close, forward and back.
-use Rattle.std.specs.Prelude.{ℕ, ◌+◌, ◌%◌, ◌≤◌, ◌≡◌, List, [], ◌∷◌, length, take}
+use Rattle.std.specs.Prelude.{ℕ, ◌+◌, ◌%◌, ◌≤◌, ◌≡◌, List, [], ◌∷◌, Ok, length, take}
 use Rattle.base.specs.Written.{WriteOutcome, written}
 use Rattle.walk.specs.Walk.{World}
-use Rattle.process_list.specs.declared.Linked.TheVariants.{Address}
 use Rattle.process_list.specs.List.{link_of}
 
 -- y follows x: both words can be read, and y lies at a multiple of 8
 pub record Follows (w : World) (x y : ℕ) : Type 0 where
-  pub forward : link_of w x ≡ Address y
+  pub forward : link_of w x ≡ Ok y
   pub aligned : y % 8 ≡ 0
-  pub back : link_of w (y + 8) ≡ Address x
+  pub back : link_of w (y + 8) ≡ Ok x
 
 -- from x through the nodes, none of which is h, back to h
 abbrev pub Closes : World → ℕ → ℕ → List ℕ → Type 0

@@ -1,37 +1,25 @@
 // The process list: nodes linked forward and back from a head.
 #![tactic(auto)]
 
-ghost use Rattle.std.specs.Prelude.{◌≡◌, ◌+◌, ◌%◌, ◌≤◌, length};
-ghost use Rattle.walk.specs.Rows.{four_levels, rows_world, WordInside};
+ghost use Rattle.std.specs.Prelude.{◌≡◌, ◌+◌, ◌≤◌, length};
+ghost use Rattle.walk.specs.Rows.{WordInside};
+ghost use Rattle.resolution.specs.Open.{open_world};
 ghost use Rattle.case.specs.Case.{case_of};
 ghost use Rattle.case.specs.Inner.{row_numbers};
-ghost use Rattle.process_list.specs.List.{link_at, link_of, next_node, nodes_after};
+ghost use Rattle.process_list.specs.List.{link_at, link_of, next_node, nodes_after, nodes_of};
 ghost use Rattle.process_list.specs.Call.{nodes_outcome, ListAnswer};
-ghost use Rattle.process_list.specs.Inner.{after_last, Pass};
+ghost use Rattle.process_list.specs.Inner.{linked, Pass, Listed};
+
+mod link;
 
 use base::{Refusal, Written};
 use case::Opened;
-use entry::Frame;
+use link::Link;
+use resolution::OpenCase;
 use walk::Place;
 
 // 01's limit of a list.
 const MOST_PROCESSES: u64 = 4096;
-// The last address whose back word, 8 bytes on, is not past the top.
-const LAST_LINK: u64 = 0xFFFFFFFFFFFFFFF7;
-
-// The address that a link has, or the refusal met on the way to it.
-#[derive(Clone, Copy)]
-pub enum Linked {
-    Address(u64),
-    Refused(Refusal),
-}
-
-// The count of nodes of a list that closes, or the first refusal.
-#[derive(Clone, Copy)]
-pub enum Followed {
-    Closed(u64),
-    Refused(Refusal),
-}
 
 // The addresses of the nodes of the list at a head into the lent buffer.
 pub fn process_list(
@@ -66,153 +54,93 @@ fn list_over(
     match case::open_four_levels(sheet, image, pagefile, rows) {
         Opened::Refused(fault) => base::fault_written(fault),
         Opened::Ready(space, n) => {
-            if head % 8 != 0 {
-                return base::not_written(Refusal::LinkUnaligned);
+            let case = OpenCase {
+                rows: &rows[..n],
+                space,
+                image,
+                pagefile,
+            };
+            match list_in(&case, head, out) {
+                Ok(length) => Written { number: 0, length },
+                Err(refusal) => base::not_written(refusal),
             }
-            list_in(&rows[..n], image, pagefile, space.directory, head, out)
         }
     }
 }
 
 // The same of an opened case: a pass that writes nothing, then a writing one.
-fn list_in(
-    rows: &[u64],
-    image: &[u8],
-    pagefile: &[u8],
-    directory: Frame,
-    head: u64,
-    out: &mut [u64],
-) -> Written
-    requires { head % 8 ≡ 0 }
-    ensures { record { answer = result; buffer = out.new } ≡ nodes_outcome out.old (nodes_after 4096 (rows_world rows.now (four_levels directory) image.now pagefile.now) (length out.old) head head) }
+fn list_in(case: &OpenCase, head: u64, out: &mut [u64]) -> Result<u64, Refusal>
+    ensures { Listed (nodes_of (open_world case.now) (length out.old) head) out.old result out.new }
 {
+    let head = Link::try_from(head)?;
     let room = out.len() as u64;
-    let none = 0;
-    match follow(
-        rows,
-        image,
-        pagefile,
-        directory,
-        head,
-        room,
-        &mut out[..none],
-    ) {
-        Followed::Refused(refusal) => base::not_written(refusal),
-        Followed::Closed(count) => {
-            follow(rows, image, pagefile, directory, head, room, out);
-            Written {
-                number: 0,
-                length: count,
-            }
-        }
-    }
+    follow(case, head, room, &mut out[..0])?;
+    follow(case, head, room, out)
 }
 
 // Follows the links from the head on, for a buffer with `room` places, and lays the nodes over a buffer as far as that goes.
-fn follow(
-    rows: &[u64],
-    image: &[u8],
-    pagefile: &[u8],
-    directory: Frame,
-    head: u64,
-    room: u64,
-    out: &mut [u64],
-) -> Followed
-    requires { head % 8 ≡ 0 }
-    ensures { Pass (nodes_after 4096 (rows_world rows.now (four_levels directory) image.now pagefile.now) room head head) out.old result out.new }
+fn follow(case: &OpenCase, head: Link, room: u64, out: &mut [u64]) -> Result<u64, Refusal>
+    ensures { Pass (nodes_after 4096 (open_world case.now) room head.address head.address) out.old result out.new }
 {
     let mut node = head;
-    let mut count = 0;
-    while count < MOST_PROCESSES {
-        match next_node(rows, image, pagefile, directory, node) {
-            Linked::Refused(refusal) => {
-                return Followed::Refused(refusal);
-            }
-            Linked::Address(next) => {
-                if next == head {
-                    return Followed::Closed(count);
-                }
-                if count == room {
-                    return Followed::Refused(Refusal::ListBufferShort);
-                }
-                base::put_number(out, count as usize, next);
-                node = next;
-                count += 1;
-            }
+    for count in 0..MOST_PROCESSES {
+        let next = next_node(case, node)?;
+        if next.address == head.address {
+            return Ok(count);
         }
-    }
-    after_last(next_node(rows, image, pagefile, directory, node), head)
-}
-
-// What follows the 4,096th node: the head, or one node too many.
-fn after_last(next: Linked, head: u64) -> Followed
-    ensures { result ≡ after_last head next }
-{
-    match next {
-        Linked::Refused(refusal) => Followed::Refused(refusal),
-        Linked::Address(x) => {
-            if x == head {
-                return Followed::Closed(MOST_PROCESSES);
-            }
-            Followed::Refused(Refusal::TooManyProcesses)
+        if count == room {
+            return Err(Refusal::ListBufferShort);
         }
+        base::put_number(out, count as usize, next.address);
+        node = next;
     }
+    let next = next_node(case, node)?;
+    if next.address == head.address {
+        return Ok(MOST_PROCESSES);
+    }
+    Err(Refusal::TooManyProcesses)
 }
 
 // The node after a node, its back link compared.
-fn next_node(rows: &[u64], image: &[u8], pagefile: &[u8], directory: Frame, node: u64) -> Linked
-    requires { node % 8 ≡ 0 }
-    ensures { result ≡ next_node (rows_world rows.now (four_levels directory) image.now pagefile.now) node }
+#[tactic(auto, unfolding(crate::specs::List::next_node))]
+fn next_node(case: &OpenCase, node: Link) -> Result<Link, Refusal>
+    ensures { linked result ≡ next_node (open_world case.now) node.address }
 {
-    match read_link(rows, image, pagefile, directory, node) {
-        Linked::Refused(refusal) => Linked::Refused(refusal),
-        Linked::Address(next) => {
-            if next % 8 != 0 {
-                return Linked::Refused(Refusal::LinkUnaligned);
-            }
-            match back_link(rows, image, pagefile, directory, next) {
-                Linked::Refused(refusal) => Linked::Refused(refusal),
-                Linked::Address(back) => {
-                    if back != node {
-                        return Linked::Refused(Refusal::BackLinkDiffers);
-                    }
-                    Linked::Address(next)
-                }
-            }
-        }
+    let next = Link::try_from(read_link(case, node)?)?;
+    if back_link(case, next)? != node.address {
+        return Err(Refusal::BackLinkDiffers);
     }
+    Ok(next)
 }
 
 // A node's back word, 8 bytes on, which may lie in the next page or past the top.
-fn back_link(rows: &[u64], image: &[u8], pagefile: &[u8], directory: Frame, node: u64) -> Linked
-    requires { node % 8 ≡ 0 }
-    ensures { result ≡ link_of (rows_world rows.now (four_levels directory) image.now pagefile.now) (node + 8) }
+#[tactic(auto, using(crate::proofs::Links::link_past_top))]
+fn back_link(case: &OpenCase, node: Link) -> Result<u64, Refusal>
+    ensures { result ≡ link_of (open_world case.now) (node.address + 8) }
 {
-    if LAST_LINK < node {
-        return Linked::Refused(Refusal::NotCanonical);
-    }
-    read_link(rows, image, pagefile, directory, node + 8)
+    let Some(address) = node.address.checked_add(8) else {
+        return Err(Refusal::NotCanonical);
+    };
+    read_link(case, Link { address })
 }
 
 // The word at an address.
-fn read_link(rows: &[u64], image: &[u8], pagefile: &[u8], directory: Frame, address: u64) -> Linked
-    requires { address % 8 ≡ 0 }
-    ensures { result ≡ link_of (rows_world rows.now (four_levels directory) image.now pagefile.now) address }
+#[tactic(auto, using(walk::proofs::Cycle::word_found), unfolding(crate::specs::List::link_of))]
+fn read_link(case: &OpenCase, link: Link) -> Result<u64, Refusal>
+    ensures { result ≡ link_of (open_world case.now) link.address }
 {
-    let found = resolution::resolve_four_level(rows, image, pagefile, directory, address);
-    let place = found.place;
-    link_at(image, pagefile, place)
+    link_at(case, case.resolve(link.address).place)
 }
 
 // The word at a place, 0 in a page of zeros.
-fn link_at(image: &[u8], pagefile: &[u8], place: Place) -> Linked
-    requires { WordInside image.now pagefile.now place }
-    ensures { result ≡ link_at image.now pagefile.now place }
+fn link_at(case: &OpenCase, place: Place) -> Result<u64, Refusal>
+    requires { WordInside case.now.image.now case.now.pagefile.now place }
+    ensures { result ≡ link_at case.now.image.now case.now.pagefile.now place }
 {
     match place {
-        Place::Image(o) => Linked::Address(words::word_at(image, o)),
-        Place::Pagefile(o) => Linked::Address(words::word_at(pagefile, o)),
-        Place::Zeros => Linked::Address(0),
-        Place::Refused(refusal) => Linked::Refused(refusal),
+        Place::Image(o) => Ok(words::word_at(case.image, o)),
+        Place::Pagefile(o) => Ok(words::word_at(case.pagefile, o)),
+        Place::Zeros => Ok(0),
+        Place::Refused(refusal) => Err(refusal),
     }
 }

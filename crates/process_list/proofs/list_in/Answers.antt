@@ -1,14 +1,17 @@
 -- The first pass has no room to write in; the second lays what the first found.
-use lib.ListN.{length-take}
-use native.Mathlib.Omega.{arith}
-use Rattle.process_list.proofs.Answers.{refused_list, whole_list}
+use Rattle.std.proofs.Common.{rules, ◌≡◌, Err}
+use Rattle.process_list.proofs.Answers.{unaligned_head, aligned_head, refused_list, whole_list}
 use Rattle.process_list.proofs.list_in.Goals as goal
 
-pub slice_bounds-follow-end-2 : goal.slice_bounds-follow-end-2
-slice_bounds-follow-end-2 c = simp length-take (omega arith)
+pub returns-in_err-head : goal.returns-in_err-head
+returns-in_err-head c =
+    let e : c.from_residual.result ≡ Err c.in_err-head.field-0.0 = search rules in
+    rw e (unaligned_head _ _ _ _ c.try_from.ensures _ c.in_err-head.was)
 
-pub returns-in-Refused : goal.returns-in-Refused
-returns-in-Refused c = refused_list _ _ _ _ c.follow.ensures _ c.in-Refused.is _ c.not_written.ensures
+pub returns-in_err-follow : goal.returns-in_err-follow
+returns-in_err-follow c =
+    let e : c.from_residual-in_err-follow.result ≡ Err c.in_err-follow.field-0.0 = search rules in
+    rw e (aligned_head _ _ _ _ c.try_from.ensures _ c.in_ok-head.was (refused_list _ _ _ _ c.follow.ensures _ c.in_err-follow.was))
 
-pub returns-in-Closed : goal.returns-in-Closed
-returns-in-Closed c = whole_list _ _ _ _ c.follow.ensures _ c.in-Closed.is _ _ c.follow-in-Closed.ensures
+pub returns : goal.returns
+returns c = aligned_head _ _ _ _ c.try_from.ensures _ c.in_ok-head.was (whole_list _ _ _ _ c.follow.ensures _ c.in_ok-follow.was _ _ c.follow-2.ensures)
