@@ -52,7 +52,7 @@ fn list_over(
     ensures { ListAnswer (case_of sheet.now image.now pagefile.now) head out.old result out.new }
 {
     match case::open_four_levels(sheet, image, pagefile, rows) {
-        Opened::Refused(fault) => base::fault_written(fault),
+        Opened::Refused(fault) => fault.into(),
         Opened::Ready(space, n) => {
             let case = OpenCase {
                 rows: &rows[..n],
@@ -62,7 +62,7 @@ fn list_over(
             };
             match list_in(&case, head, out) {
                 Ok(length) => Written { number: 0, length },
-                Err(refusal) => base::not_written(refusal),
+                Err(refusal) => refusal.into(),
             }
         }
     }
@@ -91,7 +91,7 @@ fn follow(case: &OpenCase, head: Link, room: u64, out: &mut [u64]) -> Result<u64
         if count == room {
             return Err(Refusal::ListBufferShort);
         }
-        base::put_number(out, count as usize, next.address);
+        base::put(out, count as usize, next.address);
         node = next;
     }
     let next = next_node(case, node)?;

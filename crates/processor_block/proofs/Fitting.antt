@@ -1,17 +1,15 @@
 -- The tests of one offset, one by one: what makes it a block, and what does not.
-use Rattle.std.proofs.Common.{◌≡◌, ℕ, ◌+◌, ◌-◌, ◌*◌, ◌/◌, ◌%◌, ◌^◌, ◌<◌, ◌≤◌, true, false, eqb, List, length, sym, ◌∙◌, arith, le-ltb, lt-ltb, eq-eqb, ne_eqb, le-leb}
+use Rattle.std.proofs.Common.{◌≡◌, ℕ, ◌+◌, ◌-◌, ◌*◌, ◌/◌, ◌%◌, ◌^◌, ◌<◌, ◌≤◌, Bool, true, false, eqb, List, length, Some, None, sym, ap, ◌∙◌, arith, le-ltb, lt-ltb, eq-eqb, ne_eqb, le-leb}
 use mathlib.Core.Bool.{and-false, false≢true}
 use borrow.Author.Tests.{lt-leb}
 use Rattle.base.proofs.Test.{Test, test, below, above}
-use Rattle.entry.specs.Pages.{frame}
+use Rattle.entry.specs.Entry.{frame_of}
 use Rattle.entry.specs.declared.Frame.{Frame}
-use Rattle.entry.specs.declared.PagingMode.TheVariants.{FourLevel}
-use Rattle.sheet.specs.declared.AddressSpace.{AddressSpace}
 use Rattle.walk.specs.Walk.{World, resolve_of}
-use Rattle.walk.specs.Rows.{rows_world, resolved_of}
+use Rattle.walk.specs.Rows.{resolved_of}
 use Rattle.walk.specs.declared.Resolved.{Resolved}
-use Rattle.processor_block.specs.Block.{self_word, prcb_word, directory_word, words_fit, self_walk, is_at, is_block}
-use Rattle.processor_block.specs.Inner.{NoneFit}
+use Rattle.processor_block.specs.Block.{self_word, prcb_word, directory_word, words_fit, with_directory, self_walk, is_at, is_block}
+use Rattle.processor_block.specs.Inner.{NoneFit, block_at}
 
 -- ---- the place in the page, and the three words
 
@@ -31,41 +29,12 @@ module _ (image : List ℕ) (o : ℕ) where
       go (below l) = absurd (false≢true (sym (too_far l) ∙ h))
       go (above l) = l
 
-  module _ (own prcb : ℕ) (e : own ≡ self_word image o) (f : prcb ≡ prcb_word image o) where
-    no_sum : (prcb ≡ own + 0x180 → ⊥) → words_fit image o ≡ false
-    unfolding words_fit
-    no_sum h = rw (← e, ← f, ne_eqb prcb (own + 0x180) h) (simp and-false)
-
-    -- a sum that wraps is not the second word either
-    pub not_pair : (sum : ℕ) → sum ≡ (own + 0x180) % 2 ^ 64 → prcb < 2 ^ 64 → (sum ≡ prcb → ⊥) → words_fit image o ≡ false
-    not_pair sum w l h = no_sum (λ z. h (omega arith))
-
-    pub apart : 0xFFFF000000000000 < prcb → (prcb - 0x180 ≡ own → ⊥) → words_fit image o ≡ false
-    apart l h = no_sum (λ z. h (omega arith))
-
-    pub low_prcb : prcb ≤ 0xFFFF000000000000 → words_fit image o ≡ false
-    unfolding words_fit
-    low_prcb h = rw (← f, le-ltb 0xFFFF000000000000 prcb h) (simp and-false)
-
-    pub all_fit : o % 4096 ≤ 0xE28 → 0xFFFF000000000000 < own → 0xFFFF000000000000 < prcb → prcb - 0x180 ≡ own
-        → (d : ℕ) → d ≡ directory_word image o → eqb (d / 281474976710656 % 16) 0 ≡ words_fit image o
-    unfolding words_fit
-    all_fit near high next h d g = sym (rw (
-      le-leb (o % 4096) 0xE28 near,
-      ← e,
-      lt-ltb 0xFFFF000000000000 own high,
-      ← f,
-      lt-ltb 0xFFFF000000000000 prcb next,
-      eq-eqb prcb (own + 0x180) (omega arith),
-      ← g,
-    ))
-
-  pub low_self : (own : ℕ) → own ≡ self_word image o → own ≤ 0xFFFF000000000000 → words_fit image o ≡ false
+  -- words whose sum differs, wrapped or not, are no two words of a block
+  pub not_pair : (own prcb : ℕ) → own ≡ self_word image o → prcb ≡ prcb_word image o → prcb < 2 ^ 64 → ((own + 0x180) % 2 ^ 64 ≡ prcb → ⊥) → words_fit image o ≡ false
   unfolding words_fit
-  low_self own e h = rw (← e, le-ltb 0xFFFF000000000000 own h, and-false)
-
-pub fit_inside : (image : List ℕ) (i : ℕ) → words_fit image (8 * i) ≡ true → i < length image / 8 → length image % 4096 ≡ 0 → 8 * i + 0x1D8 ≤ length image
-fit_inside image i f h e = whole (8 * i) (length image) (omega arith) e (fit_near image (8 * i) f)
+  not_pair own prcb e f l h =
+      let apart : prcb ≡ own + 0x180 → ⊥ = λ z. h (omega arith) in
+      rw (← e, ← f, ne_eqb prcb (own + 0x180) apart) (simp and-false)
 
 -- ---- words that do not fit, one after the other
 
@@ -108,12 +77,29 @@ module _ (w : World) (o : ℕ) where
   unfolding is_block
   block_here h a f p = rw (lt-ltb o (length w.image) h, eq-eqb (o % 8) 0 a, f, p)
 
--- ---- the walk that the code takes is the block's own
+-- ---- the answer for one offset
 
-abbrev pub OwnWalk : List ℕ → List ℕ → List ℕ → ℕ → Resolved → Type 0
-OwnWalk rows image pagefile o r = (space : AddressSpace) → r ≡ resolved_of (self_walk (rows_world rows space image pagefile) o)
+module _ (w : World) (o : ℕ) where
+  pub unfit_none : words_fit w.image o ≡ false → None ≡ block_at w o
+  unfolding block_at
+  unfit_none h = rw (unfit w o h)
 
-pub own_walk : (rows image pagefile : List ℕ) (o own word : ℕ) (f : Frame) (r : Resolved) → own ≡ self_word image o → word ≡ directory_word image o
-    → f ≡ frame (word / 4096 % 68719476736) → r ≡ resolved_of (resolve_of 3 (rows_world rows (record { directory = f; mode = FourLevel }) image pagefile) own) → OwnWalk rows image pagefile o r
-unfolding self_walk
-own_walk rows image pagefile o own word f r e g h q space = q ∙ rw (h, e, g)
+  module _ (r : Resolved) (e : r ≡ resolved_of (self_walk w o)) where
+    at_self : (b : Bool) → is_at o r.place ≡ b → is_at o (self_walk w o).place ≡ b
+    at_self b h = ap (λ (z : Resolved). is_at o z.place) (sym e) ∙ h
+
+    pub elsewhere_none : is_at o r.place ≡ false → None ≡ block_at w o
+    unfolding block_at
+    elsewhere_none h = rw (elsewhere w o (at_self false h))
+
+    pub here_some : o < length w.image → o % 8 ≡ 0 → words_fit w.image o ≡ true → is_at o r.place ≡ true → Some (record { number = 1; offset = o; entries = r.entries }) ≡ block_at w o
+    unfolding block_at
+    here_some l a f h =
+        let n : r.entries ≡ length (self_walk w o).trace = ap (λ (z : Resolved). z.entries) e in
+        rw (block_here w o l a f (at_self true h), n)
+
+  -- the walk that the code takes is the block's own
+  pub own_walk : (own word : ℕ) (f : Frame) (r : Resolved) → own ≡ self_word w.image o → word ≡ directory_word w.image o → f ≡ frame_of word
+      → r ≡ resolved_of (resolve_of 3 (with_directory f w) own) → r ≡ resolved_of (self_walk w o)
+  unfolding self_walk
+  own_walk own word f r e g h q = q ∙ rw (h, e, g)

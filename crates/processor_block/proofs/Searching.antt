@@ -1,16 +1,15 @@
 -- The search passes over offsets that hold no block, eight at a time.
+use Rattle.std.specs.Prelude.{if◌then◌else◌, Some, None}
+use Rattle.std.specs.Int.{div_ceil}
 use Rattle.std.proofs.Common.{◌≡◌, ℕ, zero, suc, ◌+◌, ◌-◌, ◌*◌, ◌/◌, ◌%◌, ◌<◌, ◌≤◌, Bool, true, false, List, length, sym, refl, ap, ◌∙◌, sub-one, arith}
 use Rattle.base.specs.declared.Refusal.TheVariants.{NoProcessorBlock}
 use Rattle.base.proofs.Test.{Test, test, below, above}
-use Rattle.sheet.specs.declared.AddressSpace.{AddressSpace}
 use Rattle.walk.specs.Walk.{World}
-use Rattle.walk.specs.Rows.{rows_world}
-use Rattle.walk.specs.declared.Resolved.{Resolved}
 use Rattle.case.specs.Answer.{refusal}
 use Rattle.case.specs.declared.Answer.{Answer}
-use Rattle.processor_block.specs.Block.{self_walk, words_fit, is_at, is_block, first_block, block_from}
-use Rattle.processor_block.specs.Inner.{NoneFit, Searches}
-use Rattle.processor_block.proofs.Fitting.{unaligned, unfit, elsewhere, block_here, OwnWalk}
+use Rattle.processor_block.specs.Block.{self_walk, is_block, first_block, block_from}
+use Rattle.processor_block.specs.Inner.{NoneFit, block_at}
+use Rattle.processor_block.proofs.Fitting.{too_far, unaligned, unfit}
 
 module _ (w : World) where
   skip : (n o : ℕ) → is_block w o ≡ false → first_block n w o ≡ first_block (n - 1) w (suc o)
@@ -38,62 +37,78 @@ module _ (w : World) where
           let z : 8 * i + k ≡ 8 * i = omega arith in
           rw z h
 
-  pub first_word : (from i : ℕ) → i ≡ (from + 7) / 8 → block_from w from ≡ first_block (length w.image - 8 * i) w (8 * i)
+  first_word : (from : ℕ) → block_from w from ≡ first_block (length w.image - 8 * div_ceil from 8) w (8 * div_ceil from 8)
   unfolding block_from
-  first_word from i e =
+  first_word from =
+      let i = div_ceil from 8 in
       skips (8 * i - from) (length w.image - from) from (λ k l. unaligned w (from + k) (λ z. omega arith))
       ∙ at_same (length w.image - from - (8 * i - from)) (length w.image - 8 * i) (from + (8 * i - from)) (8 * i) (omega arith) (omega arith)
 
-  pub no_words_left : (i : ℕ) → length w.image % 4096 ≡ 0 → length w.image / 8 ≤ i → first_block (length w.image - 8 * i) w (8 * i) ≡ refusal NoProcessorBlock
-  no_words_left i e h = at_same (length w.image - 8 * i) 0 (8 * i) (8 * i) (omega arith) refl ∙ unfold first_block in refl
+  no_words_left : (i : ℕ) → length w.image ≤ 8 * i → first_block (length w.image - 8 * i) w (8 * i) ≡ refusal NoProcessorBlock
+  no_words_left i h = at_same (length w.image - 8 * i) 0 (8 * i) (8 * i) (omega arith) refl ∙ unfold first_block in refl
 
-  pub found_block : (n o : ℕ) → o < n → is_block w o ≡ true → first_block (n - o) w o ≡ record { number = 1; offset = o; entries = length (self_walk w o).trace }
+  found_block : (n o : ℕ) → o < n → is_block w o ≡ true → first_block (n - o) w o ≡ record { number = 1; offset = o; entries = length (self_walk w o).trace }
   found_block n o h b = at_same (n - o) (suc (n - o - 1)) o o (omega arith) refl ∙ go (n - o - 1)
     where
       go : (m : ℕ) → first_block (suc m) w o ≡ record { number = 1; offset = o; entries = length (self_walk w o).trace }
       go m = unfold first_block in (rw b)
 
--- ---- what the search holds at word i: the first block of the whole is the first from there on
+  -- ---- what the search holds at word i: the first block of the whole is the first from there on
 
-pub record Searching (rows image pagefile : List ℕ) (from i : ℕ) : Type 0 where
-  pub rest : (space : AddressSpace) → block_from (rows_world rows space image pagefile) from ≡ first_block (length image - 8 * i) (rows_world rows space image pagefile) (8 * i)
+  pub record Searching (from i : ℕ) : Type 0 where
+    pub rest : block_from w from ≡ first_block (length w.image - 8 * i) w (8 * i)
 
-pub search_begins : {rows image pagefile : List ℕ} {from i : ℕ} → i ≡ (from + 7) / 8 → Searching rows image pagefile from i
-search_begins {rows} {image} {pagefile} {from} {i} e = record { rest = λ space. first_word (rows_world rows space image pagefile) from i e }
+  pub at_word : {from i j : ℕ} → i ≡ j → Searching from i → Searching from j
+  at_word e q = rw e at q
 
-module _ {rows image pagefile : List ℕ} {from i : ℕ} (q : Searching rows image pagefile from i) where
-  passed : ((space : AddressSpace) → is_block (rows_world rows space image pagefile) (8 * i) ≡ false) → Searching rows image pagefile from (i + 1)
-  passed h = record { rest = λ space. q.rest space ∙ next_word (rows_world rows space image pagefile) (length image) i (h space) }
+  pub search_begins : (from : ℕ) → Searching from (div_ceil from 8)
+  search_begins from = record { rest = first_word from }
 
-  pub words_differ : words_fit image (8 * i) ≡ false → Searching rows image pagefile from (i + 1)
-  words_differ h = passed (λ space. unfit (rows_world rows space image pagefile) (8 * i) h)
+  module _ {from i : ℕ} (q : Searching from i) where
+    passed : is_block w (8 * i) ≡ false → Searching from (i + 1)
+    passed h = record { rest = q.rest ∙ next_word (length w.image) i h }
 
-  pub search_ends : length image % 4096 ≡ 0 → length image / 8 ≤ i → (r : Answer) → r ≡ refusal NoProcessorBlock → Searches rows image pagefile from r
-  search_ends e h r f space = f ∙ sym (q.rest space ∙ no_words_left (rows_world rows space image pagefile) i e h)
+    abbrev here : Answer
+    here = record { number = 1; offset = 8 * i; entries = length (self_walk w (8 * i)).trace }
 
-  module _ (r : Resolved) (e : OwnWalk rows image pagefile (8 * i) r) where
-    at_self : (b : Bool) → is_at (8 * i) r.place ≡ b → (space : AddressSpace) → is_at (8 * i) (self_walk (rows_world rows space image pagefile) (8 * i)).place ≡ b
-    at_self b h space = ap (λ (z : Resolved). is_at (8 * i) z.place) (sym (e space)) ∙ h
+    pub none_at : block_at w (8 * i) ≡ None → Searching from (i + 1)
+    unfolding block_at
+    none_at e = go (is_block w (8 * i)) refl e
+      where
+        go : (b : Bool) → is_block w (8 * i) ≡ b → (if b then Some here else None) ≡ None → Searching from (i + 1)
+        go true f e = cc
+        go false f e = passed f
 
-    pub leads_elsewhere : is_at (8 * i) r.place ≡ false → Searching rows image pagefile from (i + 1)
-    leads_elsewhere h = passed (λ space. elsewhere (rows_world rows space image pagefile) (8 * i) (at_self false h space))
+    pub found_at : (r : Answer) → 8 * i < length w.image → block_at w (8 * i) ≡ Some r → r ≡ block_from w from
+    unfolding block_at
+    found_at r l e = go (is_block w (8 * i)) refl e
+      where
+        go : (b : Bool) → is_block w (8 * i) ≡ b → (if b then Some here else None) ≡ Some r → r ≡ block_from w from
+        go true f e =
+            let same : here ≡ r = cc in
+            sym (q.rest ∙ found_block (length w.image) (8 * i) l f ∙ same)
+        go false f e = cc
 
-    pub leads_back : i < length image / 8 → words_fit image (8 * i) ≡ true → is_at (8 * i) r.place ≡ true
-        → Searches rows image pagefile from (record { number = 1; offset = 8 * i; entries = r.entries })
-    leads_back l f h space =
-        ap (λ (z : Resolved). record { number = 1; offset = 8 * i; entries = z.entries }) (e space)
-        ∙ sym (q.rest space ∙ found_block (rows_world rows space image pagefile) (length image) (8 * i) (omega arith) (block_here (rows_world rows space image pagefile) (8 * i) (omega arith) (omega arith) f (at_self true h space)))
+  -- past words that do not fit
+  pub none_between : {from i r : ℕ} → Searching from i → NoneFit w.image i r → Searching from r
+  none_between {from} {i} {r} q n =
+      let e : i + (r - i) ≡ r = omega (arith, n.onward) in
+      rw e at (go (r - i) (omega (arith, n.onward)))
+    where
+      go : (j : ℕ) → i + j ≤ r → Searching from (i + j)
+      go zero h =
+          let e : i + 0 ≡ i = omega arith in
+          rw e q
+      go (suc j) h =
+          let e : i + j + 1 ≡ i + suc j = omega arith in
+          rw e at (passed (go j (omega arith)) (unfit w (8 * (i + j)) (n.none (i + j) (omega arith) (omega arith))))
 
--- past words that do not fit
-pub none_between : {rows image pagefile : List ℕ} {from i r : ℕ} → Searching rows image pagefile from i → NoneFit image i r → Searching rows image pagefile from r
-none_between {rows} {image} {pagefile} {from} {i} {r} q n =
-    let e : i + (r - i) ≡ r = omega arith in
-    rw e at (go (r - i) (omega arith))
-  where
-    go : (j : ℕ) → i + j ≤ r → Searching rows image pagefile from (i + j)
-    go zero h =
-        let e : i + 0 ≡ i = omega arith in
-        rw e q
-    go (suc j) h =
-        let e : i + j + 1 ≡ i + suc j = omega arith in
-        rw e at (words_differ (go j (omega arith)) (n.none (i + j) (omega arith) (omega arith)))
+  -- no block begins at the last 7 words of a page
+  pub search_ends : {from i : ℕ} → length w.image % 4096 ≡ 0 → length w.image / 8 ≤ i + 7 → Searching from i → refusal NoProcessorBlock ≡ block_from w from
+  search_ends {from} {i} e h q = go (test i (length w.image / 8))
+    where
+      go : Test i (length w.image / 8) → refusal NoProcessorBlock ≡ block_from w from
+      go (below l) =
+          let last : Searching from (length w.image / 8) = none_between q (record { onward = omega arith; none = λ k g u. too_far w.image (8 * k) (omega arith) }) in
+          sym (last.rest ∙ no_words_left (length w.image / 8) (omega arith))
+      go (above l) = sym (q.rest ∙ no_words_left i (omega arith))

@@ -1,22 +1,23 @@
 // The search of the image for a processor block.
 #![tactic(auto)]
 
-ghost use Rattle.std.specs.Prelude.{◌≡◌, ◌+◌, ◌*◌, ◌/◌, ◌%◌, ◌<◌, ◌≤◌, length};
+ghost use Rattle.std.specs.Prelude.{◌≡◌, ◌+◌, ◌*◌, ◌%◌, ◌<◌, ◌≤◌, length};
+ghost use Rattle.resolution.specs.Open.{open_world};
 ghost use Rattle.case.specs.Case.{case_of};
 ghost use Rattle.case.specs.Inner.{row_numbers};
-ghost use Rattle.processor_block.specs.Block.{words_fit, is_at};
+ghost use Rattle.processor_block.specs.Block.{is_at, block_from};
 ghost use Rattle.processor_block.specs.Call.{BlockAnswer};
-ghost use Rattle.processor_block.specs.Inner.{Searches, NoneFit, Passes};
+ghost use Rattle.processor_block.specs.Inner.{block_at, Passes};
 
-use base::Refusal;
+mod candidate;
+
+use base::{PAGE_BYTES, Refusal};
+use candidate::Candidate;
 use case::{Answer, Opened};
-use entry::Frame;
+use entry::{Frame, PagingMode};
+use resolution::OpenCase;
+use sheet::AddressSpace;
 use walk::Place;
-
-// Self and CurrentPrcb exceed this (01, after document 003).
-const KERNEL_FLOOR: u64 = 0xFFFF000000000000;
-// Bits 48-51 of the directory word must be 0.
-const BIT_48: u64 = 0x1000000000000;
 
 // The first processor block not below an offset: number 1, its offset, and the entries read for its Self.
 pub fn processor_block(sheet: &[u8], image: &[u8], pagefile: &[u8], from: u64) -> Answer
@@ -37,65 +38,37 @@ fn search_over(sheet: &[u8], image: &[u8], pagefile: &[u8], rows: &mut [u64], fr
 {
     match case::open_four_levels(sheet, image, pagefile, rows) {
         Opened::Refused(fault) => case::fault_answer(fault),
-        Opened::Ready(_, n) => search(&rows[..n], image, pagefile, from),
+        Opened::Ready(space, n) => {
+            let case = OpenCase {
+                rows: &rows[..n],
+                space,
+                image,
+                pagefile,
+            };
+            search(&case, from)
+        }
     }
 }
 
-// The same of an opened case, whose image has whole pages.
-fn search(rows: &[u64], image: &[u8], pagefile: &[u8], from: u64) -> Answer
-    requires { length image.now % 4096 ≡ 0 }
-    ensures { Searches rows.now image.now pagefile.now from result }
+// The same of an opened case, whose image has whole pages: four words at a time are passed over, or judged one by one.
+fn search(case: &OpenCase, from: u64) -> Answer
+    requires { length case.now.image.now % 4096 ≡ 0 }
+    ensures { result ≡ block_from (open_world case.now) from }
 {
-    let words = image.len() as u64 / 8;
-    let mut i = next_pair(image, words_before(from));
-    while i < words {
-        let o = 8 * i;
-        if words_fit(image, o) {
-            let own = words::word_at(image, o + 0x18);
-            let directory = Frame::of_entry(words::word_at(image, o + 0x1D0));
-            let found = resolution::resolve_four_level(rows, image, pagefile, directory, own);
-            let entries = found.entries;
-            let place = found.place;
-            if is_at(place, o) {
-                return Answer {
-                    number: 1,
-                    offset: o,
-                    entries,
-                };
+    let first = from.div_ceil(8);
+    let words = case.image.len() as u64 / 8;
+    // No block begins at the last 7 words.
+    for four in 0..words.saturating_sub(first + 7).div_ceil(4) {
+        let i = first + 4 * four;
+        if has_pair(case.image, i) {
+            for word in i..i + 4 {
+                if let Some(answer) = block_at(case, 8 * word) {
+                    return answer;
+                }
             }
         }
-        i = next_pair(image, i + 1);
     }
     case::refuse(Refusal::NoProcessorBlock)
-}
-
-// How many words begin before an offset.
-fn words_before(from: u64) -> u64
-    ensures { result ≡ (from + 7) / 8 }
-{
-    if from % 8 == 0 {
-        return from / 8;
-    }
-    from / 8 + 1
-}
-
-// Past words that begin no block, four at a time: to four of which one may, or to the last few.
-fn next_pair(image: &[u8], from: u64) -> u64
-    ensures { NoneFit image.now from result }
-{
-    let words = image.len() as u64 / 8;
-    if words < 7 {
-        return from;
-    }
-    let fours = words - 7;
-    let mut i = from;
-    while i < fours {
-        if has_pair(image, i) {
-            return i;
-        }
-        i += 4;
-    }
-    i
 }
 
 // May a block begin at one of the four words from the i-th on?
@@ -103,16 +76,7 @@ fn has_pair(image: &[u8], i: u64) -> bool
     requires { 8 * i + 64 ≤ length image.now }
     ensures { Passes image.now i 4 result }
 {
-    if is_pair(image, i) {
-        return true;
-    }
-    if is_pair(image, i + 1) {
-        return true;
-    }
-    if is_pair(image, i + 2) {
-        return true;
-    }
-    is_pair(image, i + 3)
+    is_pair(image, i) || is_pair(image, i + 1) || is_pair(image, i + 2) || is_pair(image, i + 3)
 }
 
 // Is the Self of a block that begins at the i-th word 0x180 less than the word after it?
@@ -122,38 +86,42 @@ fn is_pair(image: &[u8], i: u64) -> bool
 {
     let own = words::word_at(image, 8 * i + 0x18);
     let prcb = words::word_at(image, 8 * i + 0x20);
-    std::num::wrapping_add_u64(own, 0x180) == prcb
+    own.wrapping_add(0x180) == prcb
 }
 
-// Are the place in the page and the three words those of a block?
-fn words_fit(image: &[u8], o: u64) -> bool
-    requires { (o < length image.now) × (length image.now % 4096 ≡ 0) }
-    ensures { result ≡ words_fit image.now o }
+// The answer for an offset, if it holds a block: number 1, and the entries read for its Self.
+fn block_at(case: &OpenCase, offset: u64) -> Option<Answer>
+    requires word { (offset < length case.now.image.now) × (offset % 8 ≡ 0) }
+    requires pages { length case.now.image.now % 4096 ≡ 0 }
+    ensures { result ≡ block_at (open_world case.now) offset }
 {
-    if 0xE28 < o % 4096 {
-        return false;
+    if 0xE28 < offset % PAGE_BYTES {
+        return None;
     }
-    let own = words::word_at(image, o + 0x18);
-    if own <= KERNEL_FLOOR {
-        return false;
+    let candidate = Candidate {
+        image: case.image,
+        offset,
+    };
+    if !candidate.fits() {
+        return None;
     }
-    let prcb = words::word_at(image, o + 0x20);
-    if prcb <= KERNEL_FLOOR {
-        return false;
+    let space = AddressSpace {
+        directory: Frame::of_entry(candidate.directory_word()),
+        mode: PagingMode::FourLevel,
+    };
+    let found = OpenCase { space, ..*case }.resolve(candidate.own());
+    if !is_at(found.place, offset) {
+        return None;
     }
-    if prcb - 0x180 != own {
-        return false;
-    }
-    words::word_at(image, o + 0x1D0) / BIT_48 % 16 == 0
+    Some(Answer {
+        number: 1,
+        offset,
+        entries: found.entries,
+    })
 }
 
 fn is_at(place: Place, o: u64) -> bool
     ensures { result ≡ is_at o place }
 {
-    match place {
-        Place::Image(p) => p == o,
-        Place::Pagefile(_) => false,
-        Place::Zeros => false,
-        Place::Refused(_) => false,
-    }
+    matches!(place, Place::Image(p) if p == o)
 }

@@ -18,7 +18,7 @@ returns-then-count-room c =
 pub loop-count-preserved : goal.loop-count-preserved
 loop-count-preserved c =
     node_listed c.loop-count.invariant _ c.next_node.ensures c.loop-count-test.true _ c.in_ok-next.was c.if-next-head.false c.if-count-room.false _
-    c.put_number.ensures
+    c.put.ensures
 
 pub returns-in_err-next-2 : goal.returns-in_err-next-2
 returns-in_err-next-2 c =

@@ -4,7 +4,7 @@ use Rattle.process_list.proofs.Answers.{refused_case_list, counted, uncounted, l
 use Rattle.process_list.proofs.list_over.Goals as goal
 
 pub returns-in-Refused : goal.returns-in-Refused
-returns-in-Refused c = refused_case_list _ _ _ _ (refused_case _ _ _ _ _ c.open_four_levels.ensures c.in-Refused.is) _ c.fault_written.ensures
+returns-in-Refused c = refused_case_list _ _ _ _ (refused_case _ _ _ _ _ c.open_four_levels.ensures c.in-Refused.is) _ c.into.ensures
 
 pub returns-in-Ok : goal.returns-in-Ok
 returns-in-Ok c =
@@ -14,4 +14,4 @@ returns-in-Ok c =
 pub returns-in-Err : goal.returns-in-Err
 returns-in-Err c =
     let opened = accepted_four _ _ _ _ _ _ c.requires c.open_four_levels.ensures c.in-Ready.is in
-    list_answered _ _ _ _ _ _ opened _ _ (rw c.not_written.ensures (uncounted _ _ _ _ c.list_in.ensures _ c.in-Err.is))
+    list_answered _ _ _ _ _ _ opened _ _ (rw c.into-in-Err.ensures (uncounted _ _ _ _ c.list_in.ensures _ c.in-Err.is))

@@ -4,16 +4,6 @@ use Rattle.case.proofs.Opening.{refused_case, accepted_four}
 use Rattle.processor_block.proofs.Answers.{refused_search, whole_pages, searched}
 use Rattle.processor_block.proofs.search_over.Goals as goal
 
-pub slice_bounds-search-end : goal.slice_bounds-search-end
-slice_bounds-search-end c =
-    let opened = accepted_four _ _ _ _ _ _ c.requires c.open_four_levels.ensures c.in-Ready.is in
-    omega (arith, opened.case.few, c.requires)
-
-pub slice_bounds-search-end-in-Ready : goal.slice_bounds-search-end-in-Ready
-slice_bounds-search-end-in-Ready c =
-    let opened = accepted_four _ _ _ _ _ _ c.requires c.open_four_levels.ensures c.in-Ready.is in
-    simp length-take (omega (arith, opened.case.few, c.requires))
-
 pub search-requires : goal.search-requires
 search-requires c =
     let opened = accepted_four _ _ _ _ _ _ c.requires c.open_four_levels.ensures c.in-Ready.is in
