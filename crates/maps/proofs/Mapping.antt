@@ -1,6 +1,6 @@
 -- Writing a map page by page, and what the map call makes of it.
 use mathlib.Core.Path.{◌≡◌, refl, ap, ◌∙◌}
-use mathlib.Core.Bool.{true}
+use mathlib.Core.Bool.{true, false}
 use mathlib.Core.List.{List, [], ◌∷◌, ◌++◌}
 use Prim.Native.Nat.{ℕ, zero, suc, ◌+◌, ◌-◌, ◌*◌, ◌^◌, ◌≤◌, ◌<◌}
 use native.Mathlib.Omega.{arith}
@@ -10,8 +10,7 @@ use borrow.Author.Tests.{lt-ltb, le-ltb}
 use Rattle.base.specs.Codes.{is_code}
 use Rattle.base.specs.Overlay.{Wrote}
 use Rattle.base.specs.Written.{not_written}
-use Rattle.base.specs.declared.Refusal.TheVariants.{MapBufferShort}
-use Rattle.base.specs.declared.Written.{Written}
+use Rattle.base.specs.declared.Refusal.TheVariants.{BadMapRange, MapBufferShort}
 use Rattle.base.proofs.Codes.{code_small}
 use Rattle.base.proofs.Overlay.{sets_none, wrote_then}
 use Rattle.walk.specs.Walk.{World, resolve_of}
@@ -29,7 +28,7 @@ use Rattle.map_format.specs.declared.MappedPage.{MappedPage}
 use Rattle.map_format.proofs.Answers.{Mappable}
 use Rattle.map_format.proofs.Building.{empty_at, taken_none, taken_then, taken_finish, header_length, room_empty, room_less, room_pushed}
 use Rattle.maps.specs.MapOf.{allowed, mapped_page_of, pages_of, header_of, map_of}
-use Rattle.maps.specs.Call.{map_outcome}
+use Rattle.maps.specs.Inner.{map_in}
 use Rattle.maps.proofs.Ranges.{range_reached}
 
 -- an answer whose number is a code can stand in a map
@@ -107,21 +106,25 @@ map_written {w} {start} {count} {o} {old} {out} {new} {at} {i} {r} {b} p q h f =
 pub wrote_long : {o o' bs : List ℕ} {at r : ℕ} → Wrote o at bs r o' → length o' ≡ length o
 wrote_long {o} {o'} {bs} {at} {r} q = rw q.bytes (length-sets o at bs)
 
--- ---- the two passes
+-- ---- the range, and the two passes
 
-module _ (w : World) (start count : ℕ) (old last : List ℕ) (r : ℕ) (p : Wrote [] 0 (map_of w start count) r last) where
-  nothing : last ≡ []
-  nothing = p.bytes ∙ sets_none 0 (map_of w start count)
+module _ (w : World) (start count : ℕ) (old : List ℕ) where
+  pub bad_range : allowed w.space.mode start count ≡ false → record { answer = not_written BadMapRange; buffer = old } ≡ map_in w start count old
+  bad_range h = rw h
 
-  pub short_map : length (last ++ old) < r → (answer : Written) → answer ≡ not_written MapBufferShort → record { answer = answer; buffer = last ++ old } ≡ map_outcome w start count old
-  short_map h answer g =
-      let l : length old < length (map_of w start count) = omega (arith, p.place, rw nothing at h) in
-      rw (g, nothing, lt-ltb (length old) (length (map_of w start count)) l)
+  module _ (range : allowed w.space.mode start count ≡ true) (last : List ℕ) (r : ℕ) (p : Wrote [] 0 (map_of w start count) r last) where
+    nothing : last ≡ []
+    nothing = p.bytes ∙ sets_none 0 (map_of w start count)
 
-  pub full_map : r ≤ length (last ++ old) → (r₂ : ℕ) (new : List ℕ) → Wrote (last ++ old) 0 (map_of w start count) r₂ new
-      → record { answer = record { number = 0; length = r }; buffer = new } ≡ map_outcome w start count old
-  full_map h r₂ new q =
-      let l : length (map_of w start count) ≤ length old = omega (arith, p.place, rw nothing at h) in
-      let e : r ≡ length (map_of w start count) = omega (arith, p.place) in
-      let b : new ≡ sets old 0 (map_of w start count) = rw nothing at q.bytes in
-      rw (le-ltb (length old) (length (map_of w start count)) l, e, b)
+    pub short_map : length (last ++ old) < r → record { answer = not_written MapBufferShort; buffer = last ++ old } ≡ map_in w start count old
+    short_map h =
+        let l : length old < length (map_of w start count) = omega (arith, p.place, rw nothing at h) in
+        rw (range, nothing, lt-ltb (length old) (length (map_of w start count)) l)
+
+    pub full_map : r ≤ length (last ++ old) → (r₂ : ℕ) (new : List ℕ) → Wrote (last ++ old) 0 (map_of w start count) r₂ new
+        → record { answer = record { number = 0; length = r }; buffer = new } ≡ map_in w start count old
+    full_map h r₂ new q =
+        let l : length (map_of w start count) ≤ length old = omega (arith, p.place, rw nothing at h) in
+        let e : r ≡ length (map_of w start count) = omega (arith, p.place) in
+        let b : new ≡ sets old 0 (map_of w start count) = rw nothing at q.bytes in
+        rw (range, le-ltb (length old) (length (map_of w start count)) l, e, b)

@@ -13,7 +13,7 @@ use Rattle.base.specs.Notation.{bits}
 use Rattle.base.specs.Refusal.{refusal_number}
 use Rattle.base.specs.declared.Fault.{Fault}
 use Rattle.base.specs.declared.Refusal.{Refusal}
-use Rattle.base.specs.declared.Refusal.TheVariants.{BadMapRange, MapBufferShort}
+use Rattle.base.specs.declared.Refusal.TheVariants.{MapBufferShort}
 use Rattle.base.proofs.Test.{Test, test, below, above, both_true}
 use Rattle.base.proofs.Numbers.{ten_or_more}
 use Rattle.varint.specs.Reader.{refused}
@@ -43,9 +43,10 @@ use Rattle.lookup.specs.declared.Found.{Found}
 use Rattle.maps.specs.MapOf.{allowed, mapped_page_of, pages_of, header_of, map_of}
 use Rattle.maps.specs.Demand3.{walk_answer, AnswersAsWalk, Fewest, Demand3}
 use Rattle.maps.specs.Call.{map_outcome, map_call, MapAnswer}
+use Rattle.maps.specs.Inner.{map_in}
 use Rattle.base.specs.declared.Written.{Written}
-use Rattle.base.specs.Written.{not_written, fault_written}
-use Rattle.maps.proofs.Ranges.{Allowed, allowed_range, in_range_lem, start_in_half, range_reached, placed_allowed}
+use Rattle.base.specs.Written.{fault_written}
+use Rattle.maps.proofs.Ranges.{Allowed, allowed_range, in_range_lem, start_in_half, range_reached}
 use Rattle.maps.proofs.Mapping.{mappable, pages_long}
 
 -- page k of the pages
@@ -212,25 +213,12 @@ module _ (c : Case) where
       abbrev world : World
       world = world_of q.sheet c.image c.pagefile
 
-      -- the mode that the code judges by is the sheet's
-      same_range : allowed q.sheet.space.mode start count ≡ allowed space.mode start count
-      same_range = ap (λ (w : World). allowed w.space.mode start count) (sym q.world) ∙ placed_allowed space.mode start count
-
-      pub refused_range : allowed space.mode start count ≡ false → (r : Written) → r ≡ not_written BadMapRange → MapAnswer c start count old r old
+      pub mapped : (r : Written) (new : List ℕ) → record { answer = r; buffer = new } ≡ map_in (rows_world (take n rows) space c.image c.pagefile) start count old → MapAnswer c start count old r new
       unfolding map_call
-      refused_range h r g = record {
-        same = rw (q.check, same_range, h, g);
-        demand3 = rw q.check (λ e. absurd (let z : true ≡ false = sym e ∙ same_range ∙ h in let y : ◌≡◌ {A = ℕ} 0 1 = cc in omega arith));
-        grounded = case_grounded c;
-      }
-
-      pub mapped : allowed space.mode start count ≡ true → (r : Written) (new : List ℕ)
-          → record { answer = r; buffer = new } ≡ map_outcome (rows_world (take n rows) space c.image c.pagefile) start count old → MapAnswer c start count old r new
-      unfolding map_call
-      mapped h r new e =
-          let e' : record { answer = r; buffer = new } ≡ map_outcome world start count old = rw q.world at e in
+      mapped r new e =
+          let e' : record { answer = r; buffer = new } ≡ map_in world start count old = e ∙ ap (λ (w : World). map_in w start count old) q.world in
           record {
-            same = rw (q.check, same_range, h) e';
-            demand3 = rw q.check (λ x. rw e' (demand3 world q.sound (small_image space n rows q) start count (same_range ∙ h) old));
+            same = rw q.check e';
+            demand3 = rw q.check (λ x. let same : record { answer = r; buffer = new } ≡ map_outcome world start count old = rw x at e' in rw same (demand3 world q.sound (small_image space n rows q) start count x old));
             grounded = case_grounded c;
           }

@@ -3,17 +3,18 @@
 
 ghost use Rattle.std.specs.Prelude.{◌≡◌, true, ◌≤◌, ◌^◌, length};
 ghost use Rattle.base.specs.Overlay.{Wrote};
-ghost use Rattle.walk.specs.Rows.{rows_world};
+ghost use Rattle.resolution.specs.Open.{open_world};
 ghost use Rattle.case.specs.Case.{case_of};
 ghost use Rattle.case.specs.Inner.{row_numbers};
 ghost use Rattle.maps.specs.MapOf.{allowed, allowed_wide, allowed_narrow, mapped_page_of, map_of};
-ghost use Rattle.maps.specs.Call.{map_outcome, MapAnswer};
+ghost use Rattle.maps.specs.Call.{MapAnswer};
+ghost use Rattle.maps.specs.Inner.{as_written, map_in};
 
 use base::{PAGE_BYTES, Refusal, TOP_ADDRESS, Written};
 use case::Opened;
 use entry::{PagingMode, VirtualPage};
 use map_format::{Builder, Header, MappedPage};
-use sheet::AddressSpace;
+use resolution::OpenCase;
 use walk::Resolved;
 
 // 01 "One address": canonical addresses lie below this one ..
@@ -58,40 +59,36 @@ fn map_over(
     ensures { MapAnswer (case_of sheet.now image.now pagefile.now) start pages out.old result out.new }
 {
     match case::open_case(sheet, image, pagefile, rows) {
-        Opened::Refused(fault) => base::fault_written(fault),
+        Opened::Refused(fault) => fault.into(),
         Opened::Ready(space, n) => {
-            let mode = space.mode;
-            if !is_allowed(mode, start, pages) {
-                return base::not_written(Refusal::BadMapRange);
+            let case = OpenCase {
+                rows: &rows[..n],
+                space,
+                image,
+                pagefile,
+            };
+            match map_in(&case, start, pages, out) {
+                Ok(length) => Written { number: 0, length },
+                Err(refusal) => refusal.into(),
             }
-            map_in(&rows[..n], image, pagefile, space, start, pages, out)
         }
     }
 }
 
-// The same of an opened case and an allowed range: a measuring pass, then a writing one.
-fn map_in(
-    rows: &[u64],
-    image: &[u8],
-    pagefile: &[u8],
-    space: AddressSpace,
-    start: u64,
-    pages: u64,
-    out: &mut [u8],
-) -> Written
-    requires { (allowed space.mode start pages ≡ true) × (length image.now ≤ 2 ^ 48) }
-    ensures { record { answer = result; buffer = out.new } ≡ map_outcome (rows_world rows.now space image.now pagefile.now) start pages out.old }
+// The same of an opened case: a measuring pass, then a writing one.
+fn map_in(case: &OpenCase, start: u64, pages: u64, out: &mut [u8]) -> Result<u64, Refusal>
+    requires { length case.now.image.now ≤ 2 ^ 48 }
+    ensures { record { answer = as_written result; buffer = out.new } ≡ map_in (open_world case.now) start pages out.old }
 {
-    let none = 0;
-    let length = write_map(rows, image, pagefile, space, start, pages, &mut out[..none]);
+    if !is_allowed(case.space.mode, start, pages) {
+        return Err(Refusal::BadMapRange);
+    }
+    let length = write_map(case, start, pages, &mut out[..0]);
     if out.len() < length {
-        return base::not_written(Refusal::MapBufferShort);
+        return Err(Refusal::MapBufferShort);
     }
-    write_map(rows, image, pagefile, space, start, pages, out);
-    Written {
-        number: 0,
-        length: length as u64,
-    }
+    write_map(case, start, pages, out);
+    Ok(length as u64)
 }
 
 // Can a range of an address space be mapped?
@@ -131,17 +128,9 @@ fn is_allowed_wide(start: u64, pages: u64) -> bool
 }
 
 // Writes the map, and answers its length; bytes that fall past the buffer's end are counted and not written.
-fn write_map(
-    rows: &[u64],
-    image: &[u8],
-    pagefile: &[u8],
-    space: AddressSpace,
-    start: u64,
-    pages: u64,
-    out: &mut [u8],
-) -> usize
-    requires { (allowed space.mode start pages ≡ true) × (length image.now ≤ 2 ^ 48) }
-    ensures { Wrote out.old 0 (map_of (rows_world rows.now space image.now pagefile.now) start pages) result out.new }
+fn write_map(case: &OpenCase, start: u64, pages: u64, out: &mut [u8]) -> usize
+    requires { (allowed case.now.space.mode start pages ≡ true) × (length case.now.image.now ≤ 2 ^ 48) }
+    ensures { Wrote out.old 0 (map_of (open_world case.now) start pages) result out.new }
 {
     let header = Header {
         start: VirtualPage::of_address(start),
@@ -150,7 +139,7 @@ fn write_map(
     let at = map_format::write_header(out, header);
     let mut builder = Builder { at, last: None };
     for i in 0..pages {
-        let found = resolution::resolve_in(rows, image, pagefile, space, start + PAGE_BYTES * i);
+        let found = case.resolve(start + PAGE_BYTES * i);
         builder = builder.push(out, mapped_page(found));
     }
     builder.finish(out)

@@ -1,5 +1,5 @@
 -- The tests of one offset, one by one: what makes it a block, and what does not.
-use Rattle.std.proofs.Common.{◌≡◌, ℕ, ◌+◌, ◌-◌, ◌*◌, ◌/◌, ◌%◌, ◌^◌, ◌<◌, ◌≤◌, Bool, true, false, eqb, List, length, Some, None, sym, ap, ◌∙◌, arith, le-ltb, lt-ltb, eq-eqb, ne_eqb, le-leb}
+use Rattle.std.proofs.Common.{◌≡◌, ℕ, ◌+◌, ◌*◌, ◌%◌, ◌^◌, ◌<◌, ◌≤◌, Bool, true, false, eqb, List, length, Some, None, sym, ap, ◌∙◌, arith, le-ltb, lt-ltb, eq-eqb, ne_eqb}
 use mathlib.Core.Bool.{and-false, false≢true}
 use borrow.Author.Tests.{lt-leb}
 use Rattle.base.proofs.Test.{Test, test, below, above}
@@ -99,7 +99,6 @@ module _ (w : World) (o : ℕ) where
         rw (block_here w o l a f (at_self true h), n)
 
   -- the walk that the code takes is the block's own
-  pub own_walk : (own word : ℕ) (f : Frame) (r : Resolved) → own ≡ self_word w.image o → word ≡ directory_word w.image o → f ≡ frame_of word
-      → r ≡ resolved_of (resolve_of 3 (with_directory f w) own) → r ≡ resolved_of (self_walk w o)
+  pub own_walk : (own : ℕ) (f : Frame) (r : Resolved) → own ≡ self_word w.image o → f ≡ frame_of (directory_word w.image o) → r ≡ resolved_of (resolve_of 3 (with_directory f w) own) → r ≡ resolved_of (self_walk w o)
   unfolding self_walk
-  own_walk own word f r e g h q = q ∙ rw (h, e, g)
+  own_walk own f r e g q = q ∙ rw (e, g)

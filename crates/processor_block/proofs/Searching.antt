@@ -1,7 +1,7 @@
 -- The search passes over offsets that hold no block, eight at a time.
 use Rattle.std.specs.Prelude.{if◌then◌else◌, Some, None}
 use Rattle.std.specs.Int.{div_ceil}
-use Rattle.std.proofs.Common.{◌≡◌, ℕ, zero, suc, ◌+◌, ◌-◌, ◌*◌, ◌/◌, ◌%◌, ◌<◌, ◌≤◌, Bool, true, false, List, length, sym, refl, ap, ◌∙◌, sub-one, arith}
+use Rattle.std.proofs.Common.{◌≡◌, ℕ, zero, suc, ◌+◌, ◌-◌, ◌*◌, ◌/◌, ◌%◌, ◌<◌, ◌≤◌, Bool, true, false, length, sym, refl, ◌∙◌, sub-one, arith}
 use Rattle.base.specs.declared.Refusal.TheVariants.{NoProcessorBlock}
 use Rattle.base.proofs.Test.{Test, test, below, above}
 use Rattle.walk.specs.Walk.{World}

@@ -1,5 +1,6 @@
 // A place in the image that may begin a processor block.
 ghost use Rattle.std.specs.Prelude.{◌≡◌, ◌+◌, ◌%◌, ◌≤◌, length};
+ghost use Rattle.entry.specs.Entry.{frame_of};
 ghost use Rattle.processor_block.specs.Block.{self_word, prcb_word, directory_word, words_fit};
 
 use entry::{BIT_48, Frame};
@@ -44,7 +45,14 @@ impl Candidate<'_> {
         words::word_at(self.image, self.offset + 0x20)
     }
 
-    pub fn directory_word(&self) -> u64
+    // The page of the block's own directory.
+    pub fn directory(&self) -> Frame
+        ensures { result ≡ frame_of (directory_word self.now.image.now self.now.offset) }
+    {
+        Frame::of_entry(self.directory_word())
+    }
+
+    fn directory_word(&self) -> u64
         ensures { result ≡ directory_word self.now.image.now self.now.offset }
     {
         words::word_at(self.image, self.offset + 0x1D0)

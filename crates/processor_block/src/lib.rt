@@ -14,7 +14,7 @@ mod candidate;
 use base::{PAGE_BYTES, Refusal};
 use candidate::Candidate;
 use case::{Answer, Opened};
-use entry::{Frame, PagingMode};
+use entry::PagingMode;
 use resolution::OpenCase;
 use sheet::AddressSpace;
 use walk::Place;
@@ -106,7 +106,7 @@ fn block_at(case: &OpenCase, offset: u64) -> Option<Answer>
         return None;
     }
     let space = AddressSpace {
-        directory: Frame::of_entry(candidate.directory_word()),
+        directory: candidate.directory(),
         mode: PagingMode::FourLevel,
     };
     let found = OpenCase { space, ..*case }.resolve(candidate.own());

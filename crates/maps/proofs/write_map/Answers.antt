@@ -2,7 +2,7 @@
 use mathlib.Core.Path.{ap, ◌∙◌}
 use native.Mathlib.Omega.{arith}
 use Rattle.entry.specs.declared.VirtualPage.{VirtualPage}
-use Rattle.walk.specs.Rows.{rows_world}
+use Rattle.resolution.specs.Open.{open_world}
 use Rattle.walk.proofs.Cycle.{sound_rows}
 use Rattle.maps.proofs.Ranges.{allowed_range, placed_allowed, range_top}
 use Rattle.maps.proofs.Mapping.{mapping_none, mapping_next, map_written}
@@ -15,7 +15,7 @@ write_header-at-requires c =
 
 pub loop-i-init : goal.loop-i-init
 loop-i-init c =
-    let world = rows_world c.args.rows.now c.args.space c.args.image.now c.args.pagefile.now in
+    let world = open_world c.args.case.now in
     let header = rw c.of_address.ensures at c.write_header-at.ensures in
     mapping_none world _ _ _ _ (allowed_range _ _ _ c.requires.0).most header
 
@@ -27,10 +27,10 @@ overflow_add-start c = omega (arith, range_top (allowed_range _ _ _ c.requires.0
 
 pub loop-i-preserved : goal.loop-i-preserved
 loop-i-preserved c =
-    let sound = sound_rows c.args.rows.now c.args.space c.args.image.now c.args.pagefile.now in
-    let found = c.resolve_in-found.ensures in
+    let sound = sound_rows _ _ _ _ in
+    let found = c.resolve-found.ensures in
     let page = c.mapped_page.ensures in
-    let next = mapping_next c.loop-i.invariant sound c.requires.1 (placed_allowed c.args.space.mode _ _ ∙ c.requires.0) c.loop-i-test.true in
+    let next = mapping_next c.loop-i.invariant sound c.requires.1 (placed_allowed c.args.case.now.space.mode _ _ ∙ c.requires.0) c.loop-i-test.true in
     next _ found _ page _ _ c.push-builder.ensures
 
 pub returns : goal.returns

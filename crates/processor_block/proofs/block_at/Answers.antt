@@ -1,5 +1,5 @@
 -- Each test of the code is a test of the definition, in the same order.
-use Rattle.std.proofs.Common.{sym, ◌∙◌, arith}
+use Rattle.std.proofs.Common.{sym, ◌∙◌}
 use Rattle.processor_block.proofs.Fitting.{too_far, unfit_none, elsewhere_none, here_some, own_walk}
 use Rattle.processor_block.proofs.block_at.Goals as goal
 
@@ -11,10 +11,10 @@ returns-then-not-fits c = unfit_none _ _ (sym c.fits.ensures ∙ c.if-not-fits.t
 
 pub returns-then-not-is_at : goal.returns-then-not-is_at
 returns-then-not-is_at c =
-    elsewhere_none _ _ _ (own_walk _ _ _ _ _ _ c.own.ensures c.directory_word.ensures c.of_entry.ensures c.resolve-found.ensures)
+    elsewhere_none _ _ _ (own_walk _ _ _ _ _ c.own.ensures c.directory.ensures c.resolve-found.ensures)
     (sym c.is_at.ensures ∙ c.if-not-is_at.true)
 
 pub returns : goal.returns
 returns c =
-    here_some _ _ _ (own_walk _ _ _ _ _ _ c.own.ensures c.directory_word.ensures c.of_entry.ensures c.resolve-found.ensures)
+    here_some _ _ _ (own_walk _ _ _ _ _ c.own.ensures c.directory.ensures c.resolve-found.ensures)
     c.requires.word.0 c.requires.word.1 (sym c.fits.ensures ∙ c.if-not-fits.false) (sym c.is_at.ensures ∙ c.if-not-is_at.false)

@@ -1,5 +1,5 @@
 -- No word so far begins a block, so the first block from there on is the first of all.
-use Rattle.std.proofs.Common.{◌≡◌, ◌+◌, ◌*◌, sym, ◌∙◌, arith}
+use Rattle.std.proofs.Common.{sym, ◌∙◌, arith}
 use Rattle.processor_block.proofs.Searching.{search_begins, none_at, found_at, none_between, search_ends, at_word}
 use Rattle.processor_block.proofs.search.Goals.{then-has_pair+else-loop-word-test, else-has_pair}
 use Rattle.processor_block.proofs.search.Goals as goal

@@ -1,5 +1,4 @@
 -- The case is opened, and searched in its world.
-use Rattle.std.proofs.Common.{arith, length-take}
 use Rattle.case.proofs.Opening.{refused_case, accepted_four}
 use Rattle.processor_block.proofs.Answers.{refused_search, whole_pages, searched}
 use Rattle.processor_block.proofs.search_over.Goals as goal
