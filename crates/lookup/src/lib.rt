@@ -99,6 +99,7 @@ fn read_page(s: &[u8], from: usize, count: u64, k: u64) -> Result<MappedPage, Fa
     let mut at = from;
     let mut left = count;
     let mut prev = Extent::NONE;
+    // `page_at` of no extent (map_format/specs/Extents.antt), until the extent of page k has been read.
     let mut page = MappedPage { code: 0, file: 0 };
     // The loop goes by the pages that are left: an extent ends where its last field has been read.
     while 0 < left {

@@ -24,7 +24,8 @@ const VIRTUAL_PAGES: u64 = 0x1000000000;
 // 01 "Maps": first page plus length is at most this.
 const FILE_PAGES: u64 = 0x1000000000;
 
-// The answer for a page: its number and, for 1 and 2, the page of the file.
+// The answer for a page: its number and, for 1 and 2, the page of the file. A code is a number and no enum: the bytes hold
+// it, and `Fewest` (maps/specs/Demand3.antt) speaks of every list of extents, whatever their codes.
 #[derive(Clone, Copy)]
 pub struct MappedPage {
     pub code: u64,
@@ -40,7 +41,7 @@ pub struct Extent {
 }
 
 impl Extent {
-    // Stands before the first extent: 0 pages for none, as `sound` and `extents_from` of specs/Reading.antt have it.
+    // Stands before the first extent. No Option: `sound` and `extents_from` (specs/Reading.antt) have 0 pages for none.
     pub const NONE: Extent = Extent {
         code: 0,
         pages: 0,
@@ -140,6 +141,7 @@ pub fn write_header(out: &mut [u8], header: Header) -> usize
     varint::write_number(out, at, header.count)
 }
 
+// The place goes beside the buffer, and no sub-slice: it may lie past the end, where `Wrote` counts bytes and keeps none.
 fn write_extent(out: &mut [u8], at: usize, e: Extent) -> usize
     requires { (at < 2 ^ 62) × ((e.code < 2 ^ 40) × ((e.pages < 2 ^ 40) × (e.first < 2 ^ 40))) }
     ensures { Wrote out.old at (extent_bytes e) result out.new }
@@ -179,10 +181,10 @@ fn is_in_half(header: Header) -> bool
     } else {
         VIRTUAL_PAGES
     };
-    (1..=MOST_PAGES).contains(&header.count) && start.saturating_add(header.count) <= end
+    matches!(header.count, 1..=MOST_PAGES) && start.saturating_add(header.count) <= end
 }
 
-// One extent after `prev`, with `left` pages left.
+// One extent after `prev`, with `left` pages left. The place goes beside the bytes: faults count from the map's first byte.
 #[tactic(auto, unfolding(crate::specs::Reading::extent_from))]
 pub fn read_extent(s: &[u8], at: usize, left: u64, prev: Extent) -> Result<(Extent, usize), Fault>
     ensures { result ≡ as_result (extent_from left prev s.now at) }
