@@ -1,11 +1,11 @@
 -- What each function of the builder shows at its returns.
-use Rattle.std.specs.Prelude.{Some, if◌then◌else◌}
-use mathlib.Core.Path.{◌≡◌, sym, ap, ◌∙◌}
+use Rattle.std.specs.Prelude.{Some}
+use mathlib.Core.Path.{◌≡◌, ap}
 use mathlib.Core.List.{List, [], ◌∷◌, append-nil}
-use mathlib.Core.Bool.{Bool, true, false}
+use mathlib.Core.Bool.{true, false}
 use Prim.Native.Nat.{ℕ, ◌+◌}
 use Rattle.base.specs.Overlay.{Wrote}
-use Rattle.base.proofs.Overlay.{wrote_none, wrote_then}
+use Rattle.base.proofs.Overlay.{wrote_then}
 use Rattle.varint.specs.Groups.{encode}
 use Rattle.map_format.specs.Extents.{has_file_page, extent, joins}
 use Rattle.map_format.specs.Layout.{header_bytes, extent_bytes}
@@ -23,19 +23,15 @@ pub wrote_header : (h : Header) {o o₁ o₂ o₃ : List ℕ} {a b r : ℕ}
 unfolding header_bytes
 wrote_header h p q s = wrote_then p (wrote_then q s)
 
-module _ {o o₁ o₂ : List ℕ} {at r₁ r₂ : ℕ} (e : Extent) (r : Bool) (er : r ≡ has_file_page e.code)
-    (p₁ : Wrote o at (encode e.code) r₁ o₁) (p₂ : Wrote o₁ r₁ (encode e.pages) r₂ o₂) where
-  pub wrote_page : {o₃ : List ℕ} {r₃ : ℕ} → r ≡ true → Wrote o₂ r₂ (encode e.first) r₃ o₃ → Wrote o at (extent_bytes e) r₃ o₃
+module _ {o o₁ o₂ : List ℕ} {at r₁ r₂ : ℕ} (e : Extent) where
+  pub wrote_page : {o₃ : List ℕ} {r₃ : ℕ} → has_file_page e.code ≡ true
+      → Wrote o at (encode e.code) r₁ o₁ → Wrote o₁ r₁ (encode e.pages) r₂ o₂ → Wrote o₂ r₂ (encode e.first) r₃ o₃ → Wrote o at (extent_bytes e) r₃ o₃
   unfolding extent_bytes
-  wrote_page {o₃} {r₃} t p₃ =
-      let q : Wrote o₂ r₂ (if has_file_page e.code then encode e.first else []) r₃ o₃ = rw (sym er ∙ t) p₃ in
-      wrote_then p₁ (wrote_then p₂ q)
+  wrote_page t p₁ p₂ p₃ = rw t (wrote_then p₁ (wrote_then p₂ p₃))
 
-  pub wrote_no_page : r ≡ false → Wrote o at (extent_bytes e) r₂ o₂
+  pub wrote_no_page : has_file_page e.code ≡ false → Wrote o at (encode e.code) r₁ o₁ → Wrote o₁ r₁ (encode e.pages) r₂ o₂ → Wrote o at (extent_bytes e) r₂ o₂
   unfolding extent_bytes
-  wrote_no_page t =
-      let q : Wrote o₂ r₂ (if has_file_page e.code then encode e.first else []) r₂ o₂ = rw (sym er ∙ t) (wrote_none o₂ r₂) in
-      wrote_then p₁ (wrote_then p₂ q)
+  wrote_no_page t p₁ p₂ = rw (t, append-nil) (wrote_then p₁ p₂)
 
 module _ (b : Builder) (p : MappedPage) where
   pub longer : (o : List ℕ) (e : Extent) → b.last ≡ Some e → joins e p.code p.file ≡ true → PagesTaken o b (p ∷ []) o (record { at = b.at; last = Some (extent e.code (e.pages + 1) e.first) })

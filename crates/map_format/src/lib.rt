@@ -132,6 +132,7 @@ pub fn page_after(code: u64, pages: u64, first: u64) -> u64
 }
 
 // Writes the header at the front, and answers the place after it.
+#[tactic(auto, using(varint::proofs::Writing::encode_length))]
 pub fn write_header(out: &mut [u8], header: Header) -> usize
     requires { (header.start.0 < 2 ^ 36) × (header.count < 2 ^ 36) }
     ensures { Wrote out.old 0 (header_bytes header) result out.new }
@@ -142,6 +143,7 @@ pub fn write_header(out: &mut [u8], header: Header) -> usize
 }
 
 // The place goes beside the buffer, and no sub-slice: it may lie past the end, where `Wrote` counts bytes and keeps none.
+#[tactic(auto, using(varint::proofs::Writing::encode_length))]
 fn write_extent(out: &mut [u8], at: usize, e: Extent) -> usize
     requires { (at < 2 ^ 62) × ((e.code < 2 ^ 40) × ((e.pages < 2 ^ 40) × (e.first < 2 ^ 40))) }
     ensures { Wrote out.old at (extent_bytes e) result out.new }
