@@ -122,10 +122,7 @@ fn note(old: MappedPage, done: u64, k: u64, e: Extent) -> MappedPage
     ensures { result ≡ note_of old done k e }
 {
     match k.checked_sub(done) {
-        Some(n) if n < e.pages => MappedPage {
-            code: e.code,
-            file: map_format::page_after(e.code, n, e.first),
-        },
+        Some(n) if n < e.pages => e.page(n),
         _ => old,
     }
 }

@@ -4,9 +4,9 @@
 ghost use Rattle.std.specs.Prelude.{◌≡◌, [], ◌∷◌, ◌<◌, ◌^◌};
 ghost use Rattle.base.specs.Overlay.{Wrote};
 ghost use Rattle.varint.specs.Answer.{as_result};
-ghost use Rattle.map_format.specs.Extents.{has_file_page, page_after, joins};
+ghost use Rattle.map_format.specs.Extents.{mapped_page, has_file_page, page_after, joins};
 ghost use Rattle.map_format.specs.Layout.{header_bytes, extent_bytes};
-ghost use Rattle.map_format.specs.Reading.{in_half, header_fields, first_from, sound, extent_from};
+ghost use Rattle.map_format.specs.Reading.{in_half, header_fields, sound, extent_from};
 ghost use Rattle.map_format.specs.Build.{open_bytes, PagesTaken, RoomFor};
 
 use base::{Fault, Refusal};
@@ -47,6 +47,22 @@ impl Extent {
         pages: 0,
         first: 0,
     };
+
+    // Page k of the extent, counted from 0.
+    #[tactic(auto, unfolding(crate::specs::Extents::page_after))]
+    pub fn page(self, k: u64) -> MappedPage
+        requires { (k < 2 ^ 40) × (self.first < 2 ^ 40) }
+        ensures { result ≡ mapped_page self.code (page_after self.code k self.first) }
+    {
+        MappedPage {
+            code: self.code,
+            file: if has_file_page(self.code) {
+                self.first + k
+            } else {
+                self.first
+            },
+        }
+    }
 
     // Does a page of this code at this page of the file belong to the extent before it?
     #[tactic(auto, unfolding(crate::specs::Extents::page_after))]
@@ -118,19 +134,6 @@ pub fn has_file_page(code: u64) -> bool
     matches!(code, 1 | 2)
 }
 
-// The file page that is `pages` pages after an extent's first.
-#[tactic(auto, unfolding(crate::specs::Extents::page_after))]
-pub fn page_after(code: u64, pages: u64, first: u64) -> u64
-    requires { (pages < 2 ^ 40) × (first < 2 ^ 40) }
-    ensures { result ≡ page_after code pages first }
-{
-    if has_file_page(code) {
-        first + pages
-    } else {
-        first
-    }
-}
-
 // Writes the header at the front, and answers the place after it.
 #[tactic(auto, using(varint::proofs::Writing::encode_length))]
 pub fn write_header(out: &mut [u8], header: Header) -> usize
@@ -142,7 +145,8 @@ pub fn write_header(out: &mut [u8], header: Header) -> usize
     varint::write_number(out, at, header.count)
 }
 
-// The place goes beside the buffer, and no sub-slice: it may lie past the end, where `Wrote` counts bytes and keeps none.
+// The place goes beside the buffer: past the end `Wrote` counts bytes and keeps none, so no sub-slice serves, and a struct
+// of both, which was tried, has as many lines.
 #[tactic(auto, using(varint::proofs::Writing::encode_length))]
 fn write_extent(out: &mut [u8], at: usize, e: Extent) -> usize
     requires { (at < 2 ^ 62) × ((e.code < 2 ^ 40) × ((e.pages < 2 ^ 40) × (e.first < 2 ^ 40))) }
@@ -196,22 +200,16 @@ pub fn read_extent(s: &[u8], at: usize, left: u64, prev: Extent) -> Result<(Exte
         return Err(Refusal::BadExtent.into());
     }
     let (pages, at) = varint::read_field(s, at)?;
-    let (first, next) = read_first(s, at, code)?;
+    let (first, next) = if has_file_page(code) {
+        varint::read_field(s, at)?
+    } else {
+        (0, at)
+    };
     let e = Extent { code, pages, first };
     if !is_sound(left, prev, e) {
         return Err(Refusal::BadExtent.into());
     }
     Ok((e, next))
-}
-
-// The first page of the file, 0 for a code that has none.
-fn read_first(s: &[u8], at: usize, code: u64) -> Result<(u64, usize), Fault>
-    ensures { result ≡ as_result (first_from code s.now at) }
-{
-    if !has_file_page(code) {
-        return Ok((0, at));
-    }
-    varint::read_field(s, at)
 }
 
 // Do the rules of an extent hold?
