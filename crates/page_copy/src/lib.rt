@@ -26,9 +26,6 @@ pub extern "C" fn test_page_copy<'a>(
 fn copy(page: &[u8], out: &mut [u8])
     ensures { out.new ≡ sets out.old 0 page.now }
 {
-    let mut i = 0;
-    while i < page.len() {
-        base::put_byte(out, i, page[i]);
-        i += 1;
-    }
+    let n = page.len().min(out.len());
+    out[..n].copy_from_slice(&page[..n]);
 }

@@ -1,18 +1,17 @@
 -- The conditions of one offset, one by one: what makes it a header, and what does not.
-use mathlib.Core.Path.{◌≡◌, refl, sym, ◌∙◌}
+use mathlib.Core.Path.{◌≡◌, refl}
 use mathlib.Core.Bool.{Bool, true, false, not, ◌&&◌, ◌||◌, and-false}
 use mathlib.Core.List.{List}
-use Prim.Native.Nat.{ℕ, ◌+◌, ◌-◌, ◌*◌, ◌%◌, ◌≤◌, ◌<◌}
+use Prim.Native.Nat.{ℕ, ◌-◌, ◌*◌, ◌%◌, ◌≤◌, ◌<◌}
 use native.Mathlib.Omega.{arith}
 use lib.Dec.{leb, eqb}
 use lib.ListN.{length}
-use borrow.Author.Tests.{eqb-true, eqb-false, lt-ltb, le-ltb, le-leb, lt-leb, eq-eqb, ne_eqb}
+use borrow.Author.Tests.{leb-true, eqb-true, eqb-false, lt-ltb, le-ltb, le-leb, eq-eqb, ne_eqb}
 use Rattle.std.specs.Prelude.{if◌then◌else◌}
-use Rattle.base.specs.Notation.{bits}
 use Rattle.words.specs.Words.{word_at}
-use Rattle.pool.specs.Pool.{previous_size, block_size, block_end, tag, tag_fits, is_header}
+use Rattle.pool.specs.Pool.{previous_size, block_size, tag, tag_fits, is_header}
 use Rattle.pool.specs.Call.{WordsInside}
-use Rattle.pool.specs.Inner.{may_begin}
+use Rattle.pool.specs.Inner.{may_begin, is_chained}
 use Rattle.pool.proofs.Beginning.{sized, tagged}
 
 -- ---- the words asked for lie in the image
@@ -20,11 +19,19 @@ use Rattle.pool.proofs.Beginning.{sized, tagged}
 pub words_inside : (image : List ℕ) (o : ℕ) → length image % 4096 ≡ 0 → o < length image → o % 8 ≡ 0 → WordsInside image o
 words_inside image o pages l a = record { own = omega arith; before = λ h. (omega arith, omega arith); behind = λ h. omega arith }
 
+-- the same tests in another order, with one that follows from two of them
+in_order : (end behind reaches before start tag : Bool) → tag ≡ true → (reaches ≡ true → before ≡ true → start ≡ true)
+    → (end && (behind && (reaches && before))) ≡ (end && (start && (reaches && (before && (behind && tag)))))
+in_order false behind reaches before start tag t s = refl
+in_order true behind false before start tag t s = simp and-false
+in_order true behind true false start tag t s = simp and-false
+in_order true behind true true start tag t s = rw (s refl refl, t)
+
 module _ (image : List ℕ) (o : ℕ) where
-  abbrev size : ℕ
+  abbrev pub size : ℕ
   size = block_size image o
 
-  abbrev previous : ℕ
+  abbrev pub previous : ℕ
   previous = previous_size image o
 
   pub past_image : length image ≤ o → is_header image o ≡ false
@@ -68,58 +75,11 @@ module _ (image : List ℕ) (o : ℕ) where
         go true f = eq-eqb previous 0 (zero_at_start (eqb-true (o % 4096) 0 f))
         go false f = rw (ne_eqb previous 0 (λ e. eqb-false (o % 4096) 0 f (start_at_zero e)))
 
--- ---- the tests of a word that may begin a block
+  -- ---- a word that may begin a block holds a header exactly if the block and its neighbours name each other's sizes
 
-module _ (image : List ℕ) (o word size : ℕ) (w : word ≡ word_at image o) (s : size ≡ bits word 16 24) where
-  same_size : size ≡ block_size image o
-  same_size = rw w at s
-
-  pub past_page : 4096 < o % 4096 + 8 * size → is_header image o ≡ false
-  unfolding is_header
-  past_page h = rw (lt-leb (block_end image o) 4096 (omega (arith, same_size))) (simp and-false)
-
-  module _ (b : Bool) (f : b ≡ (leb 4096 (o % 4096 + 8 * size) || eqb (previous_size image (o + 8 * size)) size)) where
-    pub not_followed : b ≡ false → is_header image o ≡ false
-    unfolding is_header
-    not_followed h = rw (← same_size, ← f, h) (simp and-false)
-
-    module _ (previous : ℕ) (p : previous ≡ bits word 0 8) where
-      same_previous : previous ≡ previous_size image o
-      same_previous = rw w at p
-
-      pub before_page : o % 4096 < 8 * previous → is_header image o ≡ false
-      unfolding is_header
-      before_page h = rw (lt-leb (8 * previous_size image o) (o % 4096) (omega (arith, same_previous))) (simp and-false)
-
-      -- PreviousSize 0 exactly at the page's start is not tested: where the rest holds it follows
-      pub chained : o < length image → o % 8 ≡ 0 → may_begin (word_at image o) ≡ true → o % 4096 + 8 * size ≤ 4096 → b ≡ true → 8 * previous ≤ o % 4096
-          → (r : Bool) → r ≡ (eqb (o % 4096) 0 || eqb (block_size image (o - 8 * previous)) previous) → r ≡ is_header image o
-      unfolding is_header
-      chained l a m e t d r g = go r refl
-        where
-          some : 1 ≤ block_size image o
-          some = sized (word_at image o) m
-
-          reaches : 8 * previous_size image o ≤ o % 4096
-          reaches = omega (arith, same_previous)
-
-          before : r ≡ (eqb (o % 4096) 0 || eqb (block_size image (o - 8 * previous_size image o)) (previous_size image o))
-          before = rw same_previous at g
-
-          behind : (leb 4096 (block_end image o) || eqb (previous_size image (o + 8 * block_size image o)) (block_size image o)) ≡ true
-          behind = sym (rw same_size at f) ∙ t
-
-          go : (c : Bool) → r ≡ c → r ≡ is_header image o
-          go false z = z ∙ sym (rw (← before, z) (simp and-false))
-          go true z = z ∙ sym (rw (
-            lt-ltb o (length image) l,
-            eq-eqb (o % 8) 0 a,
-            le-leb 1 (block_size image o) some,
-            le-leb (block_end image o) 4096 (omega (arith, same_size)),
-            start_follows image o some reaches (sym before ∙ z),
-            le-leb (8 * previous_size image o) (o % 4096) reaches,
-            ← before,
-            z,
-            behind,
-            tagged (word_at image o) m,
-          ))
+  pub chained : o < length image → o % 8 ≡ 0 → may_begin (word_at image o) ≡ true → is_chained image o previous size ≡ is_header image o
+  unfolding is_header is_chained
+  chained l a m =
+      let some : 1 ≤ size = sized (word_at image o) m in
+      rw (lt-ltb o (length image) l, eq-eqb (o % 8) 0 a, le-leb 1 size some)
+      (in_order _ _ _ _ _ _ (tagged (word_at image o) m) (λ r b. start_follows some (leb-true (8 * previous) (o % 4096) r) b))

@@ -10,10 +10,8 @@ use lib.Seq.{length-sets}
 use Rattle.base.specs.Overlay.{Wrote}
 use Rattle.base.proofs.Overlay.{wrote_none, wrote_then}
 use Rattle.base.proofs.Test.{Test, test, below, above}
-use Rattle.words.specs.Words.{word_at}
 use Rattle.pool.specs.Pool.{is_header, headers_from, headers_of}
-use Rattle.pool.specs.Inner.{may_begin, NoneHold}
-use Rattle.pool.proofs.Fitting.{unaligned, cannot_begin}
+use Rattle.pool.proofs.Fitting.{unaligned}
 
 module _ (image : List ℕ) where
   -- ---- the list from an offset on
@@ -86,20 +84,6 @@ module _ (image : List ℕ) where
   pub few_headers : length image % 8 ≡ 0 → length (headers_of image) ≤ length image / 8
   few_headers h = rw all_words (few (length image / 8) (length image) 0 (omega arith))
 
--- ---- past words that hold no header
-
-pub none_yet : {image : List ℕ} {i : ℕ} → NoneHold image i i
-none_yet = record { onward = omega arith; none = λ k l h. absurd (omega arith) }
-
-pub one_more : {image : List ℕ} {from i : ℕ} → NoneHold image from i → may_begin (word_at image (8 * i)) ≡ false → NoneHold image from (i + 1)
-one_more {image} {from} {i} q h = record { onward = omega arith; none = λ k l u. go k l u (test k i) }
-  where
-    go : (k : ℕ) → from ≤ k → k < i + 1 → Test k i → is_header image (8 * k) ≡ false
-    go k l u (below m) = q.none k l m
-    go k l u (above m) =
-        let z : k ≡ i = omega arith in
-        rw z (cannot_begin image (8 * i) h)
-
 -- ---- what is laid at word i: the headers before it
 
 pub record Laying (image old : List ℕ) (i count : ℕ) (out : List ℕ) : Type 0 where
@@ -119,12 +103,9 @@ module _ {image old : List ℕ} {i count : ℕ} {out : List ℕ} (q : Laying ima
       let all : length (headers_of image) ≡ length q.done + length (words_on image (length image) i) = ap length q.rest ∙ length-append q.done (words_on image (length image) i) in
       omega (arith, all, q.wrote.place, few_headers image (omega arith))
 
-  pass : is_header image (8 * i) ≡ false → Laying image old (i + 1) count out
-  pass h = record { done = q.done; rest = rw (next_word image (length image) i h) at q.rest; wrote = q.wrote }
-
   -- on to the next word, with the buffer and the count that the code has there
   pub passed_word : is_header image (8 * i) ≡ false → {new : List ℕ} {n : ℕ} → new ≡ out → n ≡ count → Laying image old (i + 1) n new
-  passed_word h {new} {n} s e = rw (s, e) (pass h)
+  passed_word h {new} {n} s e = rw (s, e) (record { done = q.done; rest = rw (next_word image (length image) i h) at q.rest; wrote = q.wrote })
 
   pub laid_word : 8 * i < length image → is_header image (8 * i) ≡ true → {new : List ℕ} {n : ℕ} → new ≡ set out count (8 * i) → n ≡ count + 1 → Laying image old (i + 1) n new
   laid_word l h {new} {n} s e =
@@ -138,17 +119,3 @@ module _ {image old : List ℕ} {i count : ℕ} {out : List ℕ} (q : Laying ima
   all_laid e h =
       let all : headers_of image ≡ q.done = q.rest ∙ rw (no_words_left image (length image) i (omega arith), append-nil) in
       rw all q.wrote
-
--- past words that hold no header
-pub none_between : {image old : List ℕ} {i r count : ℕ} {out : List ℕ} → Laying image old i count out → NoneHold image i r → Laying image old r count out
-none_between {image} {old} {i} {r} {count} {out} q n =
-    let e : i + (r - i) ≡ r = omega arith in
-    rw e at (go (r - i) (omega arith))
-  where
-    go : (j : ℕ) → i + j ≤ r → Laying image old (i + j) count out
-    go zero h =
-        let e : i + 0 ≡ i = omega arith in
-        rw e q
-    go (suc j) h =
-        let e : i + j + 1 ≡ i + suc j = omega arith in
-        rw e at (pass (go j (omega arith)) (n.none (i + j) (omega arith) (omega arith)))

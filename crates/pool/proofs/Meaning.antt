@@ -1,25 +1,26 @@
 -- What the list means: an offset is in it exactly if it holds a header, and it ascends; and the call's answers.
-use Rattle.std.specs.Prelude.{if◌then◌else◌}
-use mathlib.Core.Path.{◌≡◌, refl, sym, ◌∙◌}
+use Rattle.std.specs.Prelude.{Ok, Err, if◌then◌else◌}
+use mathlib.Core.Path.{◌≡◌, refl, sym, ap, ◌∙◌}
 use mathlib.Core.Bool.{Bool, true, false}
-use mathlib.Core.List.{List, [], ◌∷◌, ◌++◌}
+use mathlib.Core.List.{List, ◌∷◌}
 use Prim.Native.Nat.{ℕ, zero, suc, ◌+◌, ◌/◌, ◌%◌, ◌≤◌, ◌<◌}
 use native.Mathlib.Omega.{arith}
-use lib.Dec.{leb}
+use lib.Dec.{ltb, leb, eqb}
 use lib.ListN.{length, take, drop}
 use lib.Seq.{sets, sets-eq, take_at}
-use borrow.Author.Tests.{leb-true, leb-false, lt-ltb, le-ltb, le-leb, eq-eqb, ne_eqb}
+use borrow.Author.Tests.{leb-true, leb-false, ltb-false, lt-ltb, le-ltb, le-leb, eq-eqb, ne_eqb}
 use Rattle.base.specs.Codes.{member}
 use Rattle.base.specs.Overlay.{Wrote}
-use Rattle.base.specs.Written.{not_written}
+use Rattle.base.specs.Refusal.{refusal_number}
+use Rattle.base.specs.Written.{WriteOutcome, unwritten, written}
 use Rattle.base.specs.declared.Refusal.{Refusal}
 use Rattle.base.specs.declared.Refusal.TheVariants.{ImageNotWholePages, PoolBufferShort}
 use Rattle.base.specs.declared.Written.{Written}
 use Rattle.base.proofs.Numbers.{ten_or_more}
-use Rattle.base.proofs.Overlay.{sets_none}
 use Rattle.base.proofs.Test.{Test, test, below, above}
 use Rattle.pool.specs.Pool.{is_header, headers_from, headers_of}
 use Rattle.pool.specs.Call.{headers_call, Above, Ascends, PoolAnswer}
+use Rattle.pool.specs.Inner.{answered}
 use Rattle.pool.proofs.Fitting.{words_inside, past_image}
 use Rattle.pool.proofs.Listing.{few_headers}
 
@@ -78,46 +79,50 @@ written_front : (xs old : List ℕ) → length xs ≤ length old → take (lengt
 written_front xs old l = rw (sets-eq xs old 0 (omega arith)) (take_at xs (drop (0 + length xs) old) (length xs) refl)
 
 module _ (image old : List ℕ) where
-  no_answer : (x : Refusal) {A : Type 0} → (not_written x).number ≡ 0 → A
-  no_answer x e = absurd (omega (arith, ten_or_more x))
+  abbrev headers : List ℕ
+  headers = headers_of image
 
-  refused : (x : Refusal) → record { answer = not_written x; buffer = old } ≡ headers_call image old → PoolAnswer image old (not_written x) old
-  refused x e = record { same = e; exact = λ z. no_answer x z; ascends = λ z. no_answer x z; inside = λ pages o l a. words_inside image o pages l a }
+  module _ (r : Written) (new : List ℕ) (e : record { answer = r; buffer = new } ≡ headers_call image old) where
+    abbrev Means : Type 0
+    Means = r.number ≡ 0 → ((o : ℕ) → member o (take r.length new) ≡ is_header image o) × Ascends (take r.length new)
 
-  pub part_page : (length image % 4096 ≡ 0 → ⊥) → (r : Written) → r ≡ not_written ImageNotWholePages → PoolAnswer image old r old
+    not_refused : (x : Refusal) → record { answer = r; buffer = new } ≡ unwritten old x → Means
+    not_refused x f z =
+        let n : r.number ≡ refusal_number x = ap (λ (o : WriteOutcome). o.answer.number) f in
+        absurd (omega (arith, ten_or_more x))
+
+    means : Means
+    unfolding headers_call
+    means = go (eqb (length image % 4096) 0) (ltb (length old) (length headers)) refl e
+      where
+        go : (a b : Bool) → ltb (length old) (length headers) ≡ b
+            → record { answer = r; buffer = new } ≡ (if a then if b then unwritten old PoolBufferShort else written old headers else unwritten old ImageNotWholePages) → Means
+        go false b l f z = not_refused ImageNotWholePages f z
+        go true true l f z = not_refused PoolBufferShort f z
+        go true false l f z =
+            let n : r.length ≡ length headers = ap (λ (o : WriteOutcome). o.answer.length) f in
+            let s : new ≡ sets old 0 headers = ap (λ (o : WriteOutcome). o.buffer) f in
+            rw (n, s, written_front headers old (ltb-false (length old) (length headers) l))
+            ((λ o. member_from image (length image) 0 o (omega arith) (omega arith)), ascends_from image (length image) 0)
+
+    pub promise : PoolAnswer image old r new
+    promise = record { same = e; exact = λ z. (means z).0; ascends = λ z. (means z).1; inside = λ pages o l a. words_inside image o pages l a }
+
+  pub part_page : (length image % 4096 ≡ 0 → ⊥) → answered (Err ImageNotWholePages) old ≡ headers_call image old
   unfolding headers_call
-  part_page h r e = rw e (refused ImageNotWholePages (sym (rw (ne_eqb (length image % 4096) 0 h))))
+  part_page h = rw (ne_eqb (length image % 4096) 0 h)
 
   module _ (pages : length image % 4096 ≡ 0) where
-    -- as many places as words are enough
-    pub room_for_words : length image / 8 ≤ length old → true ≡ leb (length (headers_of image)) (length old)
-    room_for_words h = sym (le-leb (length (headers_of image)) (length old) (omega (arith, few_headers image (omega arith))))
+    pub short_buffer : leb (length headers) (length old) ≡ false → answered (Err PoolBufferShort) old ≡ headers_call image old
+    unfolding headers_call
+    short_buffer h = rw (eq-eqb (length image % 4096) 0 pages, lt-ltb (length old) (length headers) (leb-false (length headers) (length old) h))
 
-    -- the counting pass has no room to write in
-    pub nothing_written : (r : ℕ) (last : List ℕ) → Wrote [] 0 (headers_of image) r last → (leb r (length old) ≡ leb (length (headers_of image)) (length old)) × (last ++ old ≡ old)
-    nothing_written r last w =
-        let count : r ≡ length (headers_of image) = omega (arith, w.place) in
-        let none : last ≡ [] = w.bytes ∙ sets_none 0 (headers_of image) in
-        (rw count, rw none)
+    pub headers_written : leb (length headers) (length old) ≡ true → (r : ℕ) (new : List ℕ) → Wrote old 0 headers r new → answered (Ok r) new ≡ headers_call image old
+    unfolding headers_call
+    headers_written h r new w =
+        let count : r ≡ length headers = omega (arith, w.place) in
+        rw (eq-eqb (length image % 4096) 0 pages, le-ltb (length old) (length headers) (leb-true (length headers) (length old) h), count, w.bytes)
 
-    -- after the counting pass
-    module _ (b : Bool) (lent : List ℕ) (c : (b ≡ leb (length (headers_of image)) (length old)) × (lent ≡ old)) where
-      pub short_buffer : b ≡ false → (r : Written) → r ≡ not_written PoolBufferShort → PoolAnswer image old r lent
-      unfolding headers_call
-      short_buffer h r e =
-          let more : length old < length (headers_of image) = leb-false (length (headers_of image)) (length old) (sym c.0 ∙ h) in
-          rw (e, c.1) (refused PoolBufferShort (sym (rw (eq-eqb (length image % 4096) 0 pages, lt-ltb (length old) (length (headers_of image)) more))))
-
-      pub headers_written : b ≡ true → (r : ℕ) (new : List ℕ) → Wrote lent 0 (headers_of image) r new → PoolAnswer image old (record { number = 0; length = r }) new
-      unfolding headers_call
-      headers_written h r new w =
-          let fits : length (headers_of image) ≤ length old = leb-true (length (headers_of image)) (length old) (sym c.0 ∙ h) in
-          let count : r ≡ length (headers_of image) = omega (arith, w.place) in
-          let front : take (length (headers_of image)) (sets old 0 (headers_of image)) ≡ headers_of image = written_front (headers_of image) old fits in
-          rw (count, w.bytes, c.1)
-          (record {
-            same = sym (rw (eq-eqb (length image % 4096) 0 pages, le-ltb (length old) (length (headers_of image)) fits));
-            exact = λ z o. rw front (member_from image (length image) 0 o (omega arith) (omega arith));
-            ascends = λ z. rw front (ascends_from image (length image) 0);
-            inside = λ whole o l a. words_inside image o whole l a;
-          })
+-- as many places as words are enough
+pub room_for_words : (image : List ℕ) (places : ℕ) → length image % 4096 ≡ 0 → length image / 8 ≤ places → leb (length (headers_of image)) places ≡ true
+room_for_words image places pages h = le-leb (length (headers_of image)) places (omega (arith, few_headers image (omega arith)))

@@ -1,7 +1,6 @@
--- The next byte is laid.
-use mathlib.Core.Path.{refl}
-use Rattle.page_copy.proofs.Laying.{laid_next}
+-- The part that fits goes to the buffer's front.
+use Rattle.page_copy.proofs.Laying.{copied}
 use Rattle.page_copy.proofs.copy.Goals as goal
 
-pub loop-i-preserved : goal.loop-i-preserved
-loop-i-preserved c = laid_next c.loop-i.invariant c.loop-i-test.true _ refl _ c.put_byte.ensures
+pub returns : goal.returns
+returns c = rw c.copy_from_slice.ensures.after (copied c.args.out.now c.args.page.now c.min-n.result c.min-n.ensures)

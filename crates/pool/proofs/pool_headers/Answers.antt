@@ -1,13 +1,9 @@
--- 70 by the length, 71 by the counting pass; the writing pass lays what the definition lists.
-use native.Mathlib.Omega.{arith}
-use Rattle.pool.proofs.Meaning.{part_page, short_buffer, headers_written}
+-- The promise follows from the equation.
+use Rattle.pool.proofs.Meaning.{promise}
 use Rattle.pool.proofs.pool_headers.Goals as goal
 
-pub returns-then-image-ne0 : goal.returns-then-image-ne0
-returns-then-image-ne0 c = part_page _ _ (λ z. c.if-image-ne0.true (omega (arith, z))) _ c.not_written.ensures
+pub returns-in-Ok : goal.returns-in-Ok
+returns-in-Ok c = promise _ _ _ _ c.in-Ok.ensures
 
-pub returns-then-not-headers_fit : goal.returns-then-not-headers_fit
-returns-then-not-headers_fit c = short_buffer _ _ c.if-image-ne0.false _ _ c.headers_fit.ensures c.if-not-headers_fit.true _ c.not_written-then-not-headers_fit.ensures
-
-pub returns : goal.returns
-returns c = headers_written _ _ c.if-image-ne0.false _ _ c.headers_fit.ensures c.if-not-headers_fit.false _ _ c.write_headers-count.ensures
+pub returns-in-Err : goal.returns-in-Err
+returns-in-Err c = promise _ _ _ _ (rw c.into.ensures c.in-Err.ensures)
