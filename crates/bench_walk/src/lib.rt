@@ -2,9 +2,11 @@
 #![tactic(auto)]
 
 ghost use Rattle.std.specs.Prelude.{◌≡◌, ◌%◌, ◌^◌};
-ghost use Rattle.bench_walk.specs.Bench.{bench_space, bench_world, image_offset, walked_offset, walked_sum};
+ghost use Rattle.resolution.specs.Open.{open_world};
+ghost use Rattle.bench_walk.specs.Bench.{bench_world, image_offset, walked_offset, walked_sum};
 
 use entry::Frame;
+use resolution::OpenCase;
 use sheet::AddressSpace;
 use walk::{Place, Resolved};
 
@@ -22,15 +24,13 @@ pub extern "C" fn bench_walk_pages(
 ) -> u64
     ensures { result ≡ walked_sum pages (bench_world rows.now image.now pagefile.now directory mode place) start % 2 ^ 64 }
 {
-    let space = space_of(directory, mode, place);
-    let mut sum = 0;
+    let case = open_case(rows, image, pagefile, directory, mode, place);
+    let mut sum = 0u64;
     let mut a = start;
-    let mut i = 0;
-    while i < pages {
-        let found = resolution::resolve_in(rows, image, pagefile, space, a);
-        sum = std::num::wrapping_add_u64(sum, image_offset(found));
-        a = std::num::wrapping_add_u64(a, 4096);
-        i += 1;
+    for i in 0..pages {
+        let found = case.resolve(a);
+        sum = sum.wrapping_add(image_offset(found));
+        a = a.wrapping_add(4096);
     }
     sum
 }
@@ -48,27 +48,38 @@ pub extern "C" fn bench_walk_one(
 ) -> u64
     ensures { result ≡ walked_offset (bench_world rows.now image.now pagefile.now directory mode place) address }
 {
-    let space = space_of(directory, mode, place);
-    image_offset(resolution::resolve_in(rows, image, pagefile, space, address))
+    let case = open_case(rows, image, pagefile, directory, mode, place);
+    image_offset(case.resolve(address))
 }
 
-fn space_of(directory: u64, mode: u64, place: u64) -> AddressSpace
-    ensures { result ≡ bench_space directory mode place }
+// The lent rows and files with the address space of a directory page, a mode's number and the directory's place.
+fn open_case<'a>(
+    rows: &'a [u64],
+    image: &'a [u8],
+    pagefile: &'a [u8],
+    directory: u64,
+    mode: u64,
+    place: u64,
+) -> OpenCase<'a>
+    ensures { open_world result ≡ bench_world rows.now image.now pagefile.now directory mode place }
 {
     let directory = Frame::numbered(directory);
     let mode = sheet::paging_mode(mode, place);
-    AddressSpace { mode, directory }
+    let space = AddressSpace { mode, directory };
+    OpenCase {
+        rows,
+        space,
+        image,
+        pagefile,
+    }
 }
 
 // An image offset, 0 elsewhere.
 fn image_offset(found: Resolved) -> u64
     ensures { result ≡ image_offset found.place }
 {
-    let place = found.place;
-    match place {
+    match found.place {
         Place::Image(o) => o,
-        Place::Pagefile(_) => 0,
-        Place::Zeros => 0,
-        Place::Refused(_) => 0,
+        _ => 0,
     }
 }
