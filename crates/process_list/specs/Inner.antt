@@ -1,10 +1,15 @@
--- What a pass over the links leaves.
+-- What the inner functions of the list call hand back.
 use Rattle.std.specs.Prelude.{ℕ, ◌≡◌, List, Result, Ok, Err, length}
 use Rattle.std.proofs.lemmas.List.Edits.{sets}
+use Rattle.base.specs.Refusal.{unplaced}
+use Rattle.base.specs.declared.Fault.{Fault}
 use Rattle.base.specs.declared.Refusal.{Refusal}
+use Rattle.base.specs.declared.Refusal.TheVariants.{ModeNotServed}
+use Rattle.entry.specs.declared.PagingMode.{PagingMode}
+use Rattle.entry.specs.declared.PagingMode.TheVariants.{FourLevel, Plain, Pae}
+use Rattle.walk.specs.Walk.{World}
 use Rattle.process_list.specs.declared.link.Link.{Link}
-use Rattle.process_list.specs.List.{Nodes, and_then}
-use Rattle.process_list.specs.Call.{nodes_outcome}
+use Rattle.process_list.specs.List.{Nodes, nodes_of, and_then}
 
 -- the address of a link
 abbrev pub linked : Result Link Refusal → Result ℕ Refusal
@@ -22,7 +27,13 @@ pub record Pass (ns : Nodes) (old : List ℕ) (r : Result ℕ Refusal) (new : Li
   pub answer : r ≡ count_of ns
   pub buffer : NodesLaid old ns new
 
--- the same of a call that leaves the buffer as it was lent where the nodes are refused
-pub record Listed (ns : Nodes) (old : List ℕ) (r : Result ℕ Refusal) (new : List ℕ) : Type 0 where
-  pub answer : r ≡ count_of ns
-  pub buffer : new ≡ (nodes_outcome old ns).buffer
+-- the count of the nodes, and the buffer; a refusal leaves it as it was lent
+abbrev pub listed : List ℕ → Nodes → Result ℕ Fault × List ℕ
+listed out (Ok xs) = (Ok (length xs), sets out 0 xs)
+listed out (Err r) = (Err (unplaced r), out)
+
+-- 37, then the nodes
+abbrev pub list_into : PagingMode → World → ℕ → List ℕ → Result ℕ Fault × List ℕ
+list_into FourLevel w h out = listed out (nodes_of w (length out) h)
+list_into Plain w h out = (Err (unplaced ModeNotServed), out)
+list_into (Pae place) w h out = (Err (unplaced ModeNotServed), out)

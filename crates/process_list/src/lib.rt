@@ -1,19 +1,17 @@
 // The process list: nodes linked forward and back from a head.
 #![tactic(auto)]
 
-ghost use Rattle.std.specs.Prelude.{◌≡◌, ◌+◌, ◌≤◌, length};
+ghost use Rattle.std.specs.Prelude.{◌≡◌, ◌+◌};
 ghost use Rattle.walk.specs.Rows.{WordInside};
 ghost use Rattle.resolution.specs.Open.{open_world};
 ghost use Rattle.case.specs.Case.{case_of};
-ghost use Rattle.case.specs.Inner.{row_numbers};
-ghost use Rattle.process_list.specs.List.{link_at, link_of, next_node, nodes_after, nodes_of};
-ghost use Rattle.process_list.specs.Call.{nodes_outcome, ListAnswer};
-ghost use Rattle.process_list.specs.Inner.{linked, Pass, Listed};
+ghost use Rattle.process_list.specs.List.{link_at, link_of, next_node, nodes_after};
+ghost use Rattle.process_list.specs.Call.{ListAnswer};
+ghost use Rattle.process_list.specs.Inner.{linked, Pass, list_into};
 
 mod link;
 
-use base::{Refusal, Written};
-use case::Opened;
+use base::{Fault, Refusal, Written};
 use link::Link;
 use resolution::OpenCase;
 use walk::Place;
@@ -31,51 +29,24 @@ pub fn process_list(
 ) -> Written
     ensures { ListAnswer (case_of sheet.now image.now pagefile.now) head out.old result out.new }
 {
-    if sheet_header::has_few_runs(sheet) {
-        let mut few = [0u64; 96];
-        return list_over(sheet, image, pagefile, &mut few, head, out);
-    }
-    let mut rows = [0u64; 3000];
-    list_over(sheet, image, pagefile, &mut rows, head, out)
-}
-
-// The same, with the rows of the runs over lent numbers.
-fn list_over(
-    sheet: &[u8],
-    image: &[u8],
-    pagefile: &[u8],
-    rows: &mut [u64],
-    head: u64,
-    out: &mut [u64],
-) -> Written
-    requires { row_numbers (case_of sheet.now image.now pagefile.now) ≤ length rows.old }
-    ensures { ListAnswer (case_of sheet.now image.now pagefile.now) head out.old result out.new }
-{
-    match case::open_four_levels(sheet, image, pagefile, rows) {
-        Opened::Refused(fault) => fault.into(),
-        Opened::Ready(space, n) => {
-            let case = OpenCase {
-                rows: &rows[..n],
-                space,
-                image,
-                pagefile,
-            };
-            match list_in(&case, head, out) {
-                Ok(length) => Written { number: 0, length },
-                Err(refusal) => refusal.into(),
-            }
-        }
+    let listed = case::with_case(sheet, image, pagefile, out, |case, out| {
+        list_in(case, head, out)
+    });
+    match listed {
+        Ok(length) => Written { number: 0, length },
+        Err(fault) => fault.into(),
     }
 }
 
 // The same of an opened case: a pass that writes nothing, then a writing one.
-fn list_in(case: &OpenCase, head: u64, out: &mut [u64]) -> Result<u64, Refusal>
-    ensures { Listed (nodes_of (open_world case.now) (length out.old) head) out.old result out.new }
+fn list_in(case: OpenCase, head: u64, out: &mut [u64]) -> Result<u64, Fault>
+    ensures { (result, out.new) ≡ list_into case.entry.space.mode (open_world case.entry) head out.old }
 {
+    let case = &case::four_levels_case(case)?;
     let head = Link::try_from(head)?;
     let room = out.len() as u64;
     follow(case, head, room, &mut out[..0])?;
-    follow(case, head, room, out)
+    Ok(follow(case, head, room, out)?)
 }
 
 // Follows the links from the head on, for a buffer with `room` places, and lays the nodes over a buffer as far as that goes.

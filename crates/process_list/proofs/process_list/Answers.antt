@@ -1,15 +1,10 @@
--- 96 numbers are enough for the rows of a sheet with few runs, 3,000 for those of any.
-use mathlib.Core.Path.{sym, ◌∙◌}
-use Rattle.case.specs.Case.{case_of}
-use Rattle.case.proofs.Opening.{enough_numbers, enough_for_few}
+-- What is listed of the opened case is what the list call says of the case.
+use Rattle.std.proofs.Common.{rules}
+use Rattle.process_list.proofs.Answers.{list_answer}
 use Rattle.process_list.proofs.process_list.Goals as goal
 
-pub list_over-requires : goal.list_over-requires
-list_over-requires c =
-    let args = c.args in
-    enough_for_few (case_of args.sheet.now args.image.now args.pagefile.now) (sym c.has_few_runs.ensures ∙ c.if-has_few_runs.true)
+pub returns-in-Ok : goal.returns-in-Ok
+returns-in-Ok c = rw c.in-Ok.is at (list_answer _ c.args.head _ _ _ _ c.with_case-listed.ensures (λ o lent left x h. search rules))
 
-pub list_over-requires-2 : goal.list_over-requires-2
-list_over-requires-2 c =
-    let args = c.args in
-    enough_numbers (case_of args.sheet.now args.image.now args.pagefile.now)
+pub returns-in-Err : goal.returns-in-Err
+returns-in-Err c = rw c.into.ensures (rw c.in-Err.is at (list_answer _ c.args.head _ _ _ _ c.with_case-listed.ensures (λ o lent left x h. search rules)))
