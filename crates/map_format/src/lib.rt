@@ -81,7 +81,8 @@ pub struct Header {
     pub count: u64,
 }
 
-// The last extent, still open, if there is one yet, and the place after what was written.
+// The last extent, still open, if there is one yet, and the place after what was written. The builder hands itself back
+// (01 "Maps" names this form, `PagesTaken` states it), so the buffer is lent to each push.
 #[derive(Clone, Copy)]
 pub struct Builder {
     pub at: usize,
