@@ -1,11 +1,13 @@
 -- Bytes laid over a buffer one after another.
-use mathlib.Core.Path.{◌≡◌, refl, sym, ap, ◌∙◌}
-use mathlib.Core.List.{List, [], ◌∷◌, ◌++◌}
-use Prim.Native.Nat.{ℕ, ◌+◌, ◌^◌, ◌<◌, ◌≤◌}
+use mathlib.Core.Path.{◌≡◌, sym, ap, ◌∙◌}
+use mathlib.Core.List.{List, [], ◌∷◌, ◌++◌, append_assoc}
+use Prim.Native.Nat.{ℕ, ◌+◌, ◌-◌, ◌^◌, ◌<◌, ◌≤◌}
+use Rattle.std.proofs.Common.{drop-drop}
+use Rattle.std.proofs.Math.Nat.{add-sub_cancel_left}
 use native.Mathlib.Omega.{arith}
-use lib.ListN.{length, take, drop, get_or, set, length-append, length-set}
+use lib.ListN.{length, take, drop, set, length-append}
 use lib.Seq.{sets, sets-eq, take_all, take-append-le, length-take-le}
-use Rattle.base.proofs.Overlay.{sets_append, sets_next}
+use Rattle.base.proofs.Overlay.{sets_append}
 use Rattle.std.specs.Fmt.{decimal}
 use Rattle.std.proofs.lemmas.Fmt.{length-decimal-le}
 use Rattle.base.specs.Overlay.{Wrote}
@@ -16,24 +18,9 @@ use Rattle.address_lines.proofs.Decimal.{same_decimal}
 
 -- ---- copying
 
-pub record Copying (out₀ : List ℕ) (at : ℕ) (text out : List ℕ) (i : ℕ) : Type 0 where
-  pub near : i ≤ length text
-  pub bytes : out ≡ sets out₀ at (take i text)
-  pub long : length out ≡ length out₀
-
-pub none_copied : (out : List ℕ) (at : ℕ) (text : List ℕ) → Copying out at text out 0
-none_copied out at text = record { near = omega arith; bytes = refl; long = refl }
-
-module _ (out₀ : List ℕ) (at : ℕ) (text out : List ℕ) (i : ℕ) (q : Copying out₀ at text out i) where
-  pub one_copied : i < length text → Copying out₀ at text (set out (at + i) (get_or text i 0)) (i + 1)
-  one_copied h = record {
-    near = omega arith;
-    bytes = rw q.bytes (sets_next out₀ at i text (get_or text i 0) h refl);
-    long = rw length-set q.long;
-  }
-
-  pub all_copied : length text ≤ i → out ≡ sets out₀ at text
-  all_copied h = q.bytes ∙ ap (sets out₀ at) (take_all i text h)
+-- a text over the part of a buffer from `at` on that is as long
+pub copied : (old text new : List ℕ) (at : ℕ) → at + length text ≤ length old → new ≡ text → take at old ++ (new ++ drop (at + length text - at) (drop at old)) ≡ sets old at text
+copied old text new at h e = rw (e, add-sub_cancel_left, drop-drop (length text) at old, sets-eq text old at h, append_assoc)
 
 -- ---- a number and the byte after it
 

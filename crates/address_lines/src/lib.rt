@@ -1,14 +1,13 @@
 // The small program of 01: a line for each address on standard input, over a case in three files.
 #![tactic(auto)]
 
-ghost use Rattle.std.specs.Prelude.{◌≡◌, ◌+◌, ◌≤◌, length, take, OnOk, OnErr};
-ghost use Rattle.std.proofs.lemmas.List.Edits.{sets};
+ghost use Rattle.std.specs.Prelude.{◌≡◌, ◌+◌, ◌≤◌, length, take, IfSome, OnOk};
 ghost use Rattle.std.specs.Io.KnownBytes.{Appends};
 ghost use Rattle.base.specs.Overlay.{Wrote};
 ghost use Rattle.case.specs.Case.{case_of};
 ghost use Rattle.address.specs.Call.{address_of};
 ghost use Rattle.address.specs.Line.{field_of, line_of, LineAt};
-ghost use Rattle.address_lines.specs.Files.{FilesRead, case_of_files, line_for};
+ghost use Rattle.address_lines.specs.Files.{case_of_files, line_for};
 
 use std::env::Env;
 use std::io::{ErrorKind, Read, Write};
@@ -36,14 +35,10 @@ pub fn write_line(
 pub fn run(rt: &(impl OpenFiles + Env + Input + Print)) -> io::Result<()> {
     // One byte more than the limit, so that a longer case shows.
     let mut buf = [0u8; 65537];
-    let files = load_all(rt, &mut buf);
-    if !files.ok {
+    let Some(files) = load_all(rt, &mut buf) else {
         return Ok(());
-    }
-    if 65536 < files.end {
-        return Ok(());
-    }
-    answer_all(&mut rt.reader(), &mut io::writer(rt), &buf, files)
+    };
+    answer_all(&mut rt.reader(), &mut io::writer(rt), files.cut(&buf))
 }
 
 // ---- the line
@@ -56,92 +51,90 @@ fn put_number(out: &mut [u8], at: usize, n: u64, last: u8) -> usize
 {
     let mut text = itoa::Buffer::new();
     let digits = text.format(n).as_bytes();
-    copy(out, at, digits);
     let end = at + digits.len();
+    out[at..end].copy_from_slice(digits);
     out[end] = last;
     end + 1
 }
 
-fn copy(out: &mut [u8], at: usize, text: &[u8])
-    requires { at + length text.now ≤ length out.old }
-    ensures { out.new ≡ sets out.old at text.now }
-{
-    let mut i = 0;
-    while i < text.len() {
-        out[at + i] = text[i];
-        i += 1;
-    }
-}
-
 // ---- the files
 
-// Whether all three could be read; where the image and the pagefile start in a buffer that starts with the sheet, and where they end.
+// The three files of a case.
+#[derive(Clone, Copy)]
+struct CaseFiles<'a> {
+    sheet: &'a [u8],
+    image: &'a [u8],
+    pagefile: &'a [u8],
+}
+
+// Where the image and the pagefile start in a buffer that starts with the sheet, and where they end; all three could be read and have at most 64 KiB together.
 #[derive(Clone, Copy)]
 struct Files {
-    ok: bool,
     image: usize,
     pagefile: usize,
     end: usize,
+    ghost image_first: { image ≤ pagefile },
+    ghost pagefile_next: { pagefile ≤ end },
+    ghost limit: { end ≤ 65536 },
 }
 
-// Whether a file could be read, and where its bytes end in a buffer.
-#[derive(Clone, Copy)]
-struct Loaded {
-    ok: bool,
-    end: usize,
-}
-
-// The files that the three arguments name, one after another.
-fn load_all(rt: &(impl OpenFiles + Env), buf: &mut [u8]) -> Files
-    ensures { (result.image ≤ result.pagefile) × (result.pagefile ≤ result.end) × (result.end ≤ length buf.new) }
-{
-    let sheet = load(rt, 1, buf, 0);
-    let image = load(rt, 2, buf, sheet.end);
-    let pagefile = load(rt, 3, buf, image.end);
-    Files {
-        ok: sheet.ok && image.ok && pagefile.ok,
-        image: sheet.end,
-        pagefile: image.end,
-        end: pagefile.end,
+impl Files {
+    // The three parts of the buffer.
+    fn cut<'a>(&self, buf: &'a [u8; 65537]) -> CaseFiles<'a>
+        ensures { case_of result.sheet.now result.image.now result.pagefile.now ≡ case_of_files buf.now self.now.image self.now.pagefile self.now.end }
+    {
+        CaseFiles {
+            sheet: &buf[..self.image],
+            image: &buf[self.image..self.pagefile],
+            pagefile: &buf[self.pagefile..self.end],
+        }
     }
 }
 
-// The file that an argument names, from `at` on.
-fn load(rt: &(impl OpenFiles + Env), argument: usize, buf: &mut [u8], at: usize) -> Loaded
+// The files that the three arguments name, one after another; none if one cannot be read or they have more than 65,536 bytes.
+fn load_all(rt: &(impl OpenFiles + Env), buf: &mut [u8; 65537]) -> Option<Files> {
+    let image = load(rt, 1, buf, 0)?;
+    let pagefile = load(rt, 2, buf, image)?;
+    let end = load(rt, 3, buf, pagefile)?;
+    if 65536 < end {
+        return None;
+    }
+    Some(Files {
+        image,
+        pagefile,
+        end,
+    })
+}
+
+// Reads the file that an argument names from `at` on, and answers where its bytes end.
+fn load(rt: &(impl OpenFiles + Env), argument: usize, buf: &mut [u8], at: usize) -> Option<usize>
     requires { at ≤ length buf.old }
-    ensures at_le_end { (at ≤ result.end) × (result.end ≤ length buf.old) }
+    ensures at_le_end { IfSome result (λ end. (at ≤ end) × (end ≤ length buf.old)) }
     ensures before { take at buf.new ≡ take at buf.old }
 {
     let mut path = [0u8; 4096];
-    let Ok(n) = rt.arg(argument, &mut path) else {
-        return Loaded { ok: false, end: at };
-    };
-    let Ok(name) = str::from_utf8(&path[..n]) else {
-        return Loaded { ok: false, end: at };
-    };
-    let Ok(mut file) = fs::open(rt, name) else {
-        return Loaded { ok: false, end: at };
-    };
+    let n = rt.arg(argument, &mut path).ok()?;
+    let name = str::from_utf8(&path[..n]).ok()?;
+    let mut file = fs::open(rt, name).ok()?;
     read_all(&mut file, buf, at)
 }
 
 // Reads to the end of the file, or as much as the buffer holds.
-fn read_all(file: &mut impl Read, buf: &mut [u8], at: usize) -> Loaded
+fn read_all(file: &mut impl Read, buf: &mut [u8], at: usize) -> Option<usize>
     requires { at ≤ length buf.old }
-    ensures at_le_end { (at ≤ result.end) × (result.end ≤ length buf.old) }
+    ensures at_le_end { IfSome result (λ end. (at ≤ end) × (end ≤ length buf.old)) }
     ensures before { take at buf.new ≡ take at buf.old }
 {
     let mut end = at;
+    // How far a read comes only the read says.
     while end < buf.len() {
-        let Ok(more) = file.read(&mut buf[end..]) else {
-            return Loaded { ok: false, end };
-        };
+        let more = file.read(&mut buf[end..]).ok()?;
         if more == 0 {
-            return Loaded { ok: true, end };
+            break;
         }
         end += more;
     }
-    Loaded { ok: true, end }
+    Some(end)
 }
 
 // ---- the addresses
@@ -149,14 +142,11 @@ fn read_all(file: &mut impl Read, buf: &mut [u8], at: usize) -> Loaded
 fn answer_all(
     input: &mut impl Read,
     output: &mut impl Write,
-    buf: &[u8],
-    files: Files,
-) -> io::Result<()>
-    requires { FilesRead buf.now files }
-{
+    files: CaseFiles<'_>,
+) -> io::Result<()> {
     // No input has 2^64 - 1 addresses.
     for _ in 0..u64::MAX {
-        if !answer_next(input, output, buf, files)? {
+        if !answer_next(input, output, files)? {
             break;
         }
     }
@@ -167,18 +157,21 @@ fn answer_all(
 fn answer_next(
     input: &mut impl Read,
     output: &mut impl Write,
-    buf: &[u8],
-    files: Files,
-) -> io::Result<bool>
-    requires { FilesRead buf.now files }
-{
+    files: CaseFiles<'_>,
+) -> io::Result<bool> {
     let mut address = [0u8; 8];
     if !read_whole(input, &mut address)? {
         return Ok(false);
     }
     let mut line = [0u8; 64];
-    let n = line_from_files(buf, files, words::word_at(&address, 0), &mut line);
-    print_line(output, buf, files, &address, &line[..n])?;
+    let n = write_line(
+        files.sheet,
+        files.image,
+        files.pagefile,
+        words::word_at(&address, 0),
+        &mut line,
+    );
+    print_line(output, files, &address, &line[..n])?;
     Ok(true)
 }
 
@@ -191,33 +184,14 @@ fn read_whole(input: &mut impl Read, bytes: &mut [u8]) -> io::Result<bool> {
     }
 }
 
-// The line of an address, over the three files in the buffer.
-fn line_from_files(buf: &[u8], files: Files, address: u64, out: &mut [u8; 64]) -> usize
-    requires { FilesRead buf.now files }
-    ensures { LineAt (line_of (address_of (case_of_files buf.now files) address)) out.old result out.new }
-{
-    let image = files.image;
-    let pagefile = files.pagefile;
-    let end = files.end;
-    write_line(
-        &buf[..image],
-        &buf[image..pagefile],
-        &buf[pagefile..end],
-        address,
-        out,
-    )
-}
-
 // Prints a line. What standard output holds no contract can say, so the `requires` says what the line is.
 fn print_line<W: Write>(
     output: &mut W,
-    buf: &[u8],
-    files: Files,
+    files: CaseFiles<'_>,
     address: &[u8],
     line: &[u8],
 ) -> io::Result<()>
-    requires files_read { FilesRead buf.now files }
-    requires line_value { line.now ≡ line_for buf.now files address.now }
+    requires { line.now ≡ line_for files address.now }
     ensures { OnOk result (Appends (W.contents output.old) (W.contents output.new) line.now) }
 {
     output.write_all(line)

@@ -7,7 +7,7 @@ ghost use Rattle.case.specs.Case.{case_of};
 ghost use Rattle.resolution.specs.Open.{open_world};
 ghost use Rattle.reading.specs.Bytes.{bytes_of};
 ghost use Rattle.reading.specs.Call.{fault_bytes, ReadAnswer};
-ghost use Rattle.reading.specs.Inner.{piece_of, PieceInside, FilledWith, read_into};
+ghost use Rattle.reading.specs.Inner.{piece_of, PieceInside, FilledWith, read_into, read_case};
 
 use base::{Fault, Refusal, TOP_ADDRESS};
 use resolution::OpenCase;
@@ -45,10 +45,7 @@ pub fn read_bytes(
 ) -> BytesRead
     ensures { ReadAnswer (case_of sheet.now image.now pagefile.now) address n out.old result out.new }
 {
-    let read = case::with_case(sheet, image, pagefile, out, |case, out| {
-        read_in(&case, address, n, out)
-    });
-    match read {
+    match read_case(sheet, image, pagefile, address, n, out) {
         Ok(zeros) => BytesRead {
             number: 0,
             length: n,
@@ -58,7 +55,23 @@ pub fn read_bytes(
     }
 }
 
-// The same of an opened case, a pass that writes nothing and then a writing one; answers whether a byte came from a page of zeros.
+// The same for a call of our own: whether a byte came from a page of zeros, or what is at fault.
+pub fn read_case(
+    sheet: &[u8],
+    image: &[u8],
+    pagefile: &[u8],
+    address: u64,
+    n: u64,
+    out: &mut [u8],
+) -> Result<bool, Fault>
+    ensures { (result, out.new) ≡ read_case (case_of sheet.now image.now pagefile.now) address n out.old }
+{
+    case::with_case(sheet, image, pagefile, out, |case, out| {
+        read_in(&case, address, n, out)
+    })
+}
+
+// The same of an opened case: a pass that writes nothing, then a writing one.
 fn read_in(case: &OpenCase, address: u64, n: u64, out: &mut [u8]) -> Result<bool, Fault>
     ensures { (result, out.new) ≡ read_into (open_world case.now) address n out.old }
 {

@@ -1,4 +1,3 @@
-pub mod Judging
 pub mod Doubles
 pub mod Field
 pub mod Examples

@@ -1,9 +1,10 @@
 -- What the time call hands back.
-use Rattle.std.specs.Prelude.{ℕ, ◌+◌, ◌*◌, ◌/◌, ◌%◌, ◌<◌, ◌≡◌, false, pos, Float}
+use Rattle.std.specs.Prelude.{ℕ, ◌+◌, ◌*◌, ◌/◌, ◌%◌, ◌<◌, ◌≡◌, false, pos, Float, Result, Ok, Err}
 use Rattle.std.specs.Float.{binary64}
 use Rattle.std.specs.Float.Ieee.{of_int}
 use Rattle.std.specs.Float.Ieee.Exact.{HasValue}
 use Rattle.base.specs.Refusal.{refusal_number}
+use Rattle.base.specs.declared.Refusal.{Refusal}
 use Rattle.case.specs.Case.{Case}
 use Rattle.case.specs.Answer.{GroundedAt}
 use Rattle.times.specs.Time.{Ticks, ticks, refused, ticks_at}
@@ -24,6 +25,11 @@ no_time n = record { number = n; time = record { seconds = double 0; ticks = dou
 abbrev pub time_read : Ticks → TimeRead
 time_read (ticks t) = record { number = 0; time = time_of t }
 time_read (refused r) = no_time (refusal_number r)
+
+-- the same before it is made an answer
+abbrev pub time_told : Ticks → Result Time Refusal
+time_told (ticks t) = Ok (time_of t)
+time_told (refused r) = Err r
 
 -- x is the whole number n, not rounded, with a clear sign
 abbrev pub Exactly : Float → ℕ → Type 0

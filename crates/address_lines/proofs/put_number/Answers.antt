@@ -1,7 +1,13 @@
 -- The digits, then the byte after them.
 use mathlib.Core.Path.{◌∙◌}
-use Rattle.address_lines.proofs.Laying.{field_laid}
+use native.Mathlib.Omega.{arith}
+use Rattle.address_lines.proofs.Laying.{copied, few_digits, field_laid}
 use Rattle.address_lines.proofs.put_number.Goals as goal
 
 pub returns-clause-wrote : goal.returns-clause-wrote
-returns-clause-wrote c = field_laid c.args.n c.ranges.n.fits c.as_bytes-digits.result.now (c.as_bytes-digits.ensures.value ∙ c.format.ensures.text) c.args.out.now c.copy.new.out c.args.at c.args.last c.copy.ensures
+returns-clause-wrote c =
+    let args = c.args in
+    let digits = c.as_bytes-digits.result.now in
+    let spelt = c.as_bytes-digits.ensures.value ∙ c.format.ensures.text in
+    let few = few_digits args.n c.ranges.n.fits digits spelt in
+    field_laid args.n c.ranges.n.fits digits spelt args.out.now _ args.at args.last (copied args.out.now digits c.copy_from_slice.new.self args.at (omega arith) c.copy_from_slice.ensures.after)
