@@ -25,7 +25,7 @@ use Rattle.map_format.specs.declared.Header.{Header}
 use Rattle.map_format.specs.declared.MappedPage.{MappedPage}
 use Rattle.map_format.proofs.HeaderFields.{header_range}
 use Rattle.lookup.specs.Call.{refused_lookup, fault_found, answer_at, in_range, lookup_read}
-use Rattle.lookup.specs.Inner.{page_of_read, asked_of, found_for, found_in}
+use Rattle.lookup.specs.Inner.{page_of_read, asked_of, answer_for, found_in}
 use Rattle.lookup.specs.declared.Found.{Found}
 
 -- the map of a header, when its extents were read and the end is judged
@@ -123,7 +123,7 @@ told_as a (got m i) = go (canonical a) (in_range m.header (virtual_page_of a))
     asked : Bool → Bool → Result ℕ Refusal
     asked b c = if not b then Err NotCanonical else if c then Ok ((virtual_page_of a).0 - m.header.start.0) else Err OutsideMap
 
-    go : (b c : Bool) → told (found_for a m.extents (asked b c)) ≡ (if not b then refused_lookup NotCanonical else if c then answer_at a (page_at m.extents ((virtual_page_of a).0 - m.header.start.0)) else refused_lookup OutsideMap)
+    go : (b c : Bool) → told (answer_for a m.extents (asked b c)) ≡ (if not b then refused_lookup NotCanonical else if c then answer_at a (page_at m.extents ((virtual_page_of a).0 - m.header.start.0)) else refused_lookup OutsideMap)
     go false c = refl
     go true true = refl
     go true false = refl

@@ -32,10 +32,10 @@ asked_of h a =
     Err OutsideMap
 
 -- the answer of the page that is asked for
-abbrev pub found_for : ℕ → List Extent → Result ℕ Refusal → Result Found Fault
-found_for a es (Ok k) = Ok (answer_at a (page_at es k))
-found_for a es (Err r) = Err (unplaced r)
+abbrev pub answer_for : ℕ → List Extent → Result ℕ Refusal → Result Found Fault
+answer_for a es (Ok k) = Ok (answer_at a (page_at es k))
+answer_for a es (Err r) = Err (unplaced r)
 
 abbrev pub found_in : ℕ → Read Map → Result Found Fault
-found_in a (got m at) = found_for a m.extents (asked_of m.header a)
+found_in a (got m at) = answer_for a m.extents (asked_of m.header a)
 found_in a (refused f) = Err f

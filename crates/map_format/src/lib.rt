@@ -91,7 +91,6 @@ pub struct Builder {
 
 impl Builder {
     // Takes one page: it makes the open extent longer, or the open extent is written and the page opens the next.
-    #[tactic(auto, unfolding(crate::specs::Build::after_page, crate::specs::Build::written_for))]
     pub fn push(self, out: &mut [u8], page: MappedPage) -> Self
         requires { RoomFor self 1 }
         ensures { PagesTaken out.old self (page ∷ []) out.new result }
