@@ -17,9 +17,7 @@ use Rattle.varint.proofs.Reader.{came, held, returned}
 use Rattle.entry.specs.declared.PagingMode.{PagingMode}
 use Rattle.entry.specs.declared.PagingMode.TheVariants.{FourLevel, Plain, Pae}
 use Rattle.sheet.specs.Sheet.{mode_number, place_of, is_place, paging_mode, mode_fields}
-use Rattle.sheet.specs.Inner.{PlaceInPage, mode_read}
-use Rattle.sheet.specs.declared.ModeRead.{ModeRead}
-use Rattle.sheet.specs.declared.ModeRead.TheVariants.{Mode, Refused}
+use Rattle.sheet.specs.Inner.{PlaceInPage}
 
 -- ---- the numbers
 
@@ -65,43 +63,9 @@ in_page_lem (suc (suc n)) place p = rw (ne_eqb (suc (suc n)) 0 (λ z. omega (ari
 
 -- ---- reading them
 
-module _ (s : List ℕ) (at : ℕ) where
-  pub no_mode : (r : Fault) → number s at ≡ refused r → mode_fields s at ≡ refused r
-  unfolding mode_fields
-  no_mode r e = rw e
-
-  module _ (n a : ℕ) (e₁ : number s at ≡ got n a) where
-    pub low_mode : n < 1 → mode_fields s at ≡ refused (unplaced OutOfLimits)
-    unfolding mode_fields
-    low_mode h = rw (e₁, lt-leb 1 n h)
-
-    module _ (h₁ : 1 ≤ n) where
-      pub high_mode : 2 < n → mode_fields s at ≡ refused (unplaced OutOfLimits)
-      unfolding mode_fields
-      high_mode h = rw (e₁, le-leb 1 n h₁, lt-leb n 2 h)
-
-      module _ (h₂ : n ≤ 2) where
-        pub no_place : (r : Fault) → number s a ≡ refused r → mode_fields s at ≡ refused r
-        unfolding mode_fields
-        no_place r e = rw (e₁, le-leb 1 n h₁, le-leb n 2 h₂, e)
-
-        module _ (place next : ℕ) (e₂ : number s a ≡ got place next) where
-          pub other_place : is_place n place ≡ false → mode_fields s at ≡ refused (unplaced OutOfLimits)
-          unfolding mode_fields
-          other_place h = rw (e₁, le-leb 1 n h₁, le-leb n 2 h₂, e₂, h)
-
-          pub mode_read_lem : is_place n place ≡ true → mode_fields s at ≡ got (paging_mode n place) next
-          unfolding mode_fields
-          mode_read_lem h = rw (e₁, le-leb 1 n h₁, le-leb n 2 h₂, e₂, h)
-
--- what a caller of `read_mode` learns
-pub mode_got : (d : Read PagingMode) (v : ModeRead) (m : PagingMode) (next : ℕ) → v ≡ mode_read d → v ≡ Mode m next → d ≡ got m next
-mode_got (got m₁ j) v m next e f = cc
-mode_got (refused r) v m next e f = absurd (let z : ◌≡◌ {A = ℕ} 0 1 = cc in omega arith)
-
-pub mode_bad : (d : Read PagingMode) (v : ModeRead) (r : Fault) → v ≡ mode_read d → v ≡ Refused r → d ≡ refused r
-mode_bad (got m j) v r e f = absurd (let z : ◌≡◌ {A = ℕ} 0 1 = cc in omega arith)
-mode_bad (refused q) v r e f = cc
+pub mode_read_lem : (s : List ℕ) (at n a : ℕ) → number s at ≡ got n a → 1 ≤ n → n ≤ 2 → (place next : ℕ) → number s a ≡ got place next → is_place n place ≡ true → mode_fields s at ≡ got (paging_mode n place) next
+unfolding mode_fields
+mode_read_lem s at n a e₁ h₁ h₂ place next e₂ h = rw (e₁, le-leb 1 n h₁, le-leb n 2 h₂, e₂, h)
 
 -- ---- what was read
 
