@@ -1,4 +1,5 @@
 -- What the call hands back, after a reading over an empty part of the buffer and one over the part that the runs take.
+use Rattle.std.specs.Prelude.{Result, Ok, Err}
 use mathlib.Core.Path.{◌≡◌, refl, sym, ap, ◌∙◌}
 use mathlib.Core.List.{List, [], ◌∷◌, ◌++◌, append-nil}
 use Prim.Native.Nat.{ℕ, ◌+◌, ◌*◌, ◌<◌, ◌≤◌}
@@ -14,8 +15,6 @@ use Rattle.sheet.specs.Sheet.{mode_number, place_of, Sheet, sheet_of}
 use Rattle.sheet.specs.Call.{rows_from, sheet_read, SheetAnswer}
 use Rattle.sheet.specs.declared.AddressSpace.{AddressSpace}
 use Rattle.sheet.specs.declared.Header.{Header}
-use Rattle.sheet.specs.declared.SheetRead.{SheetRead}
-use Rattle.sheet.specs.declared.SheetRead.TheVariants as sheet_told
 use Rattle.sheet.proofs.ManyRuns.{rows_length}
 use Rattle.sheet.proofs.AcceptedCase.{AcceptedCase, accepted_laws}
 use Rattle.case_runs.specs.Call.{run_numbers, case_refusal, fault_case, case_runs_of}
@@ -45,9 +44,9 @@ module _ (bytes : List ℕ) (image pagefile : ℕ) (old : List ℕ) (s : Sheet) 
       let laid : sets old 0 (run_numbers 0 s.runs) ≡ run_numbers 0 s.runs ++ drop (3 * n) old = sets-eq (run_numbers 0 s.runs) old 0 (omega (arith, long)) ∙ rw long in
       rw (e, f, g, d, m, p, le-ltb (length old) (3 * length s.runs) (omega (arith, many)), laid, many)
 
--- ---- what a caller of `read_sheet` learns
+-- ---- what the check of the sheet tells
 
--- the sheet that a reading accepted with these fields
+-- the sheet that was accepted with these fields
 record Accepts (bytes : List ℕ) (image pagefile : ℕ) (h : Header) : Type 0 where
   sheet : Sheet
   at : ℕ
@@ -56,11 +55,11 @@ record Accepts (bytes : List ℕ) (image pagefile : ℕ) (h : Header) : Type 0 w
   many : h.count ≡ length sheet.runs
   space : h.space ≡ sheet.space
 
-module _ (bytes : List ℕ) (image pagefile : ℕ) (part : List ℕ) (r : SheetRead) (new : List ℕ) (p : SheetAnswer (sheet_of bytes image pagefile) part r new) where
-  accepts : (h : Header) → r ≡ sheet_told.Accepted h → Accepts bytes image pagefile h
-  accepts h f = go (sheet_of bytes image pagefile) refl (sym p.same ∙ f)
+module _ (bytes : List ℕ) (image pagefile : ℕ) (r : Result Header Fault) (e : r ≡ sheet_read (sheet_of bytes image pagefile)) where
+  accepts : (h : Header) → r ≡ Ok h → Accepts bytes image pagefile h
+  accepts h f = go (sheet_of bytes image pagefile) refl (sym e ∙ f)
     where
-      go : (d : Read Sheet) → sheet_of bytes image pagefile ≡ d → sheet_read d ≡ sheet_told.Accepted h → Accepts bytes image pagefile h
+      go : (d : Read Sheet) → sheet_of bytes image pagefile ≡ d → sheet_read d ≡ Ok h → Accepts bytes image pagefile h
       go (got s at) e g =
           let own : h ≡ record { space = s.space; count = length s.runs } = cc in
           record {
@@ -71,67 +70,46 @@ module _ (bytes : List ℕ) (image pagefile : ℕ) (part : List ℕ) (r : SheetR
             many = ap (λ (x : Header). x.count) own;
             space = ap (λ (x : Header). x.space) own;
           }
-      go (refused x) e g = absurd (let z : ◌≡◌ {A = ℕ} 0 1 = cc in omega arith)
+      go (refused x) e g = cc
 
-  refuses : (x : Fault) → r ≡ sheet_told.Refused x → sheet_of bytes image pagefile ≡ refused x
-  refuses x f = go (sheet_of bytes image pagefile) (sym p.same ∙ f)
+  refuses : (x : Fault) → r ≡ Err x → sheet_of bytes image pagefile ≡ refused x
+  refuses x f = go (sheet_of bytes image pagefile) (sym e ∙ f)
     where
-      go : (d : Read Sheet) → sheet_read d ≡ sheet_told.Refused x → d ≡ refused x
-      go (got s at) g = absurd (let z : ◌≡◌ {A = ℕ} 0 1 = cc in omega arith)
+      go : (d : Read Sheet) → sheet_read d ≡ Err x → d ≡ refused x
+      go (got s at) g = cc
       go (refused y) g = cc
 
--- ---- the two readings
-
-module _ (bytes : List ℕ) (image pagefile : ℕ) (old last : List ℕ) (r : SheetRead) (p : SheetAnswer (sheet_of bytes image pagefile) [] r last) (k : length last ≡ 0) where
-  -- the first has no room to write in
-  whole : last ++ old ≡ old
-  whole = go last k
-    where
-      go : (l : List ℕ) → length l ≡ 0 → l ++ old ≡ old
-      go [] e = refl
-      go (x ∷ l) e = absurd (omega (arith, e))
-
-  pub refused_sheet : (x : Fault) → r ≡ sheet_told.Refused x → (a : CaseRead) → a ≡ fault_case x → record { answer = a; buffer = last ++ old } ≡ case_runs_of bytes image pagefile old
+  pub refused_sheet : (old : List ℕ) (x : Fault) → r ≡ Err x → (a : CaseRead) → a ≡ fault_case x → record { answer = a; buffer = old } ≡ case_runs_of bytes image pagefile old
   unfolding case_runs_of
-  refused_sheet x f a g = rw (refuses bytes image pagefile [] r last p x f, g, whole)
+  refused_sheet old x f a g = rw (refuses x f, g)
 
-  module _ (h : Header) (f : r ≡ sheet_told.Accepted h) where
+  module _ (old : List ℕ) (h : Header) (f : r ≡ Ok h) where
     -- the numbers that the runs take
     abbrev n : ℕ
     n = 3 * h.count
 
     q : Accepts bytes image pagefile h
-    q = accepts bytes image pagefile [] r last p h f
+    q = accepts h f
 
-    pub short_buffer : length (last ++ old) < n → (a : CaseRead) → a ≡ case_refusal ListBufferShort → record { answer = a; buffer = last ++ old } ≡ case_runs_of bytes image pagefile old
-    short_buffer l a g = rw whole (no_room bytes image pagefile old q.sheet q.at q.check (omega (arith, l, ap length whole, q.many)) a g)
+    pub short_buffer : length old < n → (a : CaseRead) → a ≡ case_refusal ListBufferShort → record { answer = a; buffer = old } ≡ case_runs_of bytes image pagefile old
+    short_buffer l a g = no_room bytes image pagefile old q.sheet q.at q.check (omega (arith, l, q.many)) a g
 
-    -- the second lays the rows over the front of the buffer, which they fill
-    module _ (room : n ≤ length (last ++ old)) (r₂ : SheetRead) (rows : List ℕ)
-        (p₂ : SheetAnswer (sheet_of bytes image pagefile) (take n (last ++ old)) r₂ rows) where
+    -- the rows lie over the front of the buffer, which they fill
+    module _ (room : n ≤ length old) (r₂ : Result Header Fault) (rows : List ℕ) (p₂ : SheetAnswer (sheet_of bytes image pagefile) (take n old) r₂ rows) where
       rows_are : rows ≡ rows_from 0 q.sheet.runs
       rows_are =
-          let laid : rows ≡ sets (take n (last ++ old)) 0 (rows_from 0 q.sheet.runs) = rw q.check at p₂.rows in
-          let long : length (take n (last ++ old)) ≡ n = length-take-le n (last ++ old) room in
-          laid ∙ laid_over (take n (last ++ old)) (rows_from 0 q.sheet.runs) (omega (arith, long, rows_length 0 q.sheet.runs, q.many))
+          let laid : rows ≡ sets (take n old) 0 (rows_from 0 q.sheet.runs) = rw q.check at p₂.rows in
+          let long : length (take n old) ≡ n = length-take-le n old room in
+          laid ∙ laid_over (take n old) (rows_from 0 q.sheet.runs) (omega (arith, long, rows_length 0 q.sheet.runs, q.many))
 
-      rows_many : length rows ≡ n
-      rows_many = omega (arith, ap length rows_are, rows_length 0 q.sheet.runs, q.many)
+      pub ordered : RowsInOrder rows
+      ordered = rw rows_are (rows_in_order 0 0 0 q.sheet.runs q.laws.chain (omega arith))
 
-      front : take n (rows ++ drop n (last ++ old)) ≡ rows_from 0 q.sheet.runs
-      front = take_at rows (drop n (last ++ old)) n rows_many ∙ rows_are
-
-      pub ordered : RowsInOrder (take n (rows ++ drop n (last ++ old)))
-      ordered = rw front (rows_in_order 0 0 0 q.sheet.runs q.laws.chain (omega arith))
-
-      pub handed_back : (new : List ℕ) → new ≡ runs_of_rows (take n (rows ++ drop n (last ++ old)))
+      pub handed_back : (new : List ℕ) → new ≡ runs_of_rows rows
           → (directory mode place : ℕ) → directory ≡ h.space.directory.0 → mode ≡ mode_number h.space.mode → place ≡ place_of h.space.mode
-          → record { answer = record { number = 0; directory = directory; mode = mode; place = place; length = h.count }; buffer = new ++ drop n (rows ++ drop n (last ++ old)) }
+          → record { answer = record { number = 0; directory = directory; mode = mode; place = place; length = h.count }; buffer = new ++ drop n old }
           ≡ case_runs_of bytes image pagefile old
       handed_back new e directory mode place d m p =
-          let numbers : new ≡ run_numbers 0 q.sheet.runs = e ∙ rw front (rows_turned 0 0 0 q.sheet.runs q.laws.chain (omega arith)) in
-          let rest : drop n (rows ++ drop n (last ++ old)) ≡ drop n old =
-          drop_at rows (drop n (last ++ old)) n rows_many ∙ rw whole in
-          let fits : n ≤ length old = omega (arith, room, ap length whole) in
-          all_runs bytes image pagefile old q.sheet q.at q.check h.count q.many fits _ _ numbers rest directory mode place
+          let numbers : new ≡ run_numbers 0 q.sheet.runs = e ∙ rw rows_are (rows_turned 0 0 0 q.sheet.runs q.laws.chain (omega arith)) in
+          all_runs bytes image pagefile old q.sheet q.at q.check h.count q.many room _ _ numbers refl directory mode place
           (d ∙ ap (λ (x : AddressSpace). x.directory.0) q.space) (m ∙ ap (λ (x : AddressSpace). mode_number x.mode) q.space) (p ∙ ap (λ (x : AddressSpace). place_of x.mode) q.space)

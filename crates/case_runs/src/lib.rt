@@ -5,8 +5,8 @@ ghost use Rattle.std.specs.Prelude.{◌≡◌};
 ghost use Rattle.case_runs.specs.Call.{case_refusal, fault_case, case_runs_of, image_length_of};
 ghost use Rattle.case_runs.specs.Inner.{RowsInOrder, runs_of_rows};
 
-use base::{Fault, Refusal, Written};
-use sheet::{FieldsRead, SheetRead};
+use base::{Fault, PAGE_BYTES, Refusal, Written};
+use sheet::ModeNumbers;
 
 // 01's number, or 53 for a buffer too short; the directory page, the paging mode's two numbers, and how many runs there are.
 #[repr(C)]
@@ -19,34 +19,57 @@ pub struct CaseRead {
     pub length: u64,
 }
 
+impl From<Refusal> for CaseRead {
+    ghost from_gives = { λ r a. a ≡ case_refusal r };
+
+    fn from(refusal: Refusal) -> CaseRead {
+        CaseRead {
+            number: refusal.number(),
+            directory: 0,
+            mode: 0,
+            place: 0,
+            length: 0,
+        }
+    }
+}
+
+// The same for a sheet at fault.
+impl From<Fault> for CaseRead {
+    ghost from_gives = { λ f a. a ≡ fault_case f };
+
+    fn from(fault: Fault) -> CaseRead {
+        CaseRead {
+            number: fault.refusal.number(),
+            directory: 0,
+            mode: 0,
+            place: 0,
+            length: fault.shown_position(),
+        }
+    }
+}
+
 // The address space of a case, and three numbers a run into the lent buffer: first frame, pages, image page.
 pub fn case_runs(sheet: &[u8], image: u64, pagefile: u64, out: &mut [u64]) -> CaseRead
     ensures { record { answer = result; buffer = out.new } ≡ case_runs_of sheet.now image pagefile out.old }
 {
-    let none = 0;
-    match sheet_reader::read_sheet(sheet, image, pagefile, &mut out[..none]) {
-        SheetRead::Refused(fault) => fault_case(fault),
-        SheetRead::Accepted(header) => {
-            let count = header.count;
-            if out.len() / 3 < count {
-                return refuse(Refusal::ListBufferShort);
-            }
-            let n = 3 * count;
-            sheet_reader::read_sheet(sheet, image, pagefile, &mut out[..n]);
-            rows_to_runs(&mut out[..n]);
-            let space = header.space;
-            let directory = space.directory;
-            let paging = space.mode;
-            let mode = sheet::mode_number(paging);
-            let place = sheet::place_of(paging);
-            CaseRead {
-                number: 0,
-                directory: directory.number(),
-                mode,
-                place,
-                length: count as u64,
-            }
-        }
+    let header = match sheet_reader::check_sheet(sheet, image, pagefile) {
+        Ok(header) => header,
+        Err(fault) => return fault.into(),
+    };
+    if out.len() / 3 < header.count {
+        return Refusal::ListBufferShort.into();
+    }
+    let rows = &mut out[..3 * header.count];
+    // It was accepted before.
+    let _header = sheet_reader::read_sheet(sheet, image, pagefile, rows);
+    rows_to_runs(rows);
+    let numbers = ModeNumbers::from(header.space.mode);
+    CaseRead {
+        number: 0,
+        directory: header.space.directory.number(),
+        mode: numbers.mode,
+        place: numbers.place,
+        length: header.count as u64,
     }
 }
 
@@ -54,43 +77,12 @@ pub fn case_runs(sheet: &[u8], image: u64, pagefile: u64, out: &mut [u64]) -> Ca
 pub fn image_length(sheet: &[u8]) -> Written
     ensures { result ≡ image_length_of sheet.now }
 {
-    let mut rows = [0u64; 1];
-    let no_rows = 0;
-    match sheet_reader::read_fields(sheet, &mut rows[..no_rows]) {
-        FieldsRead::Refused(fault) => base::fault_written(fault),
-        FieldsRead::Fields(_, pages) => {
-            let length = 4096 * pages;
-            Written { number: 0, length }
-        }
-    }
-}
-
-fn refuse(refusal: Refusal) -> CaseRead
-    ensures { result ≡ case_refusal refusal }
-{
-    CaseRead {
-        number: refusal.number(),
-        directory: 0,
-        mode: 0,
-        place: 0,
-        length: 0,
-    }
-}
-
-// The same for a sheet at fault.
-fn fault_case(fault: Fault) -> CaseRead
-    ensures { result ≡ fault_case fault }
-{
-    let refusal = fault.refusal;
-    let number = refusal.number();
-    let position = fault.shown_position();
-    let zero = 0;
-    CaseRead {
-        number,
-        directory: zero,
-        mode: zero,
-        place: zero,
-        length: position,
+    match sheet_reader::read_fields(sheet, &mut []) {
+        Ok((_, pages)) => Written {
+            number: 0,
+            length: PAGE_BYTES * pages,
+        },
+        Err(fault) => fault.into(),
     }
 }
 
@@ -99,13 +91,13 @@ fn rows_to_runs(rows: &mut [u64])
     requires { RowsInOrder rows.old }
     ensures { rows.new ≡ runs_of_rows rows.old }
 {
-    let mut at = 0;
-    while at < rows.len() {
+    // By index: after `chunks_exact_mut` or a slice pattern a proof knows the length of the rows alone.
+    for i in 0..rows.len() / 3 {
+        let at = 3 * i;
         let first = rows[at];
         let end = rows[at + 1];
         let skipped = rows[at + 2];
         rows[at + 1] = end - first;
         rows[at + 2] = first - skipped;
-        at += 3;
     }
 }

@@ -1,5 +1,0 @@
--- The refusal's number, and the position that it shows.
-use Rattle.case_runs.proofs.fault_case.Goals as goal
-
-pub returns : goal.returns
-returns c = rw (c.number-number.ensures, c.shown_position-position.ensures)
