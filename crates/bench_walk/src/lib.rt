@@ -7,7 +7,7 @@ ghost use Rattle.bench_walk.specs.Bench.{bench_world, image_offset, walked_offse
 
 use entry::Frame;
 use resolution::OpenCase;
-use sheet::AddressSpace;
+use sheet::{AddressSpace, ModeNumbers};
 use walk::{Place, Resolved};
 
 // The sum of the image offsets of consecutive pages, modulo 2^64: one call that walks many pages.
@@ -64,7 +64,7 @@ fn open_case<'a>(
     ensures { open_world result ≡ bench_world rows.now image.now pagefile.now directory mode place }
 {
     let directory = Frame::numbered(directory);
-    let mode = sheet::paging_mode(mode, place);
+    let mode = ModeNumbers { mode, place }.into();
     let space = AddressSpace { mode, directory };
     OpenCase {
         rows,

@@ -1,4 +1,5 @@
 -- What a caller of `open_case` has: the refusal of the check, or the world of the accepted case.
+use Rattle.std.specs.Prelude.{Result, Ok, Err}
 use mathlib.Core.Path.{◌≡◌, refl, sym, ap, subst, ◌∙◌}
 use mathlib.Core.List.{List}
 use mathlib.Core.Bool.{true}
@@ -16,8 +17,6 @@ use Rattle.entry.specs.declared.PagingMode.TheVariants.{FourLevel, Plain, Pae}
 use Rattle.sheet.specs.declared.AddressSpace.{AddressSpace}
 use Rattle.sheet.specs.declared.Header.{Header}
 use Rattle.sheet.specs.declared.Run.{Run}
-use Rattle.sheet.specs.declared.SheetRead.{SheetRead}
-use Rattle.sheet.specs.declared.SheetRead.TheVariants as sheet_told
 use Rattle.sheet.proofs.ManyRuns.{rows_length}
 use Rattle.sheet.proofs.AcceptedCase.{AcceptedCase, accepted_laws}
 use Rattle.sheet.proofs.Short.{few_runs_lem}
@@ -34,28 +33,28 @@ use Rattle.case.specs.declared.Opened.TheVariants.{Ready, Refused}
 -- ---- open_case
 
 -- three numbers a run cannot overflow
-pub few_rows : (bytes : List ℕ) (image pagefile : ℕ) (v : SheetRead) (h : Header) → v ≡ sheet_read (sheet_of bytes image pagefile) → v ≡ sheet_told.Accepted h → h.count ≤ 1000
+pub few_rows : (bytes : List ℕ) (image pagefile : ℕ) (v : Result Header Fault) (h : Header) → v ≡ sheet_read (sheet_of bytes image pagefile) → v ≡ Ok h → h.count ≤ 1000
 few_rows bytes image pagefile v h e f = go (sheet_of bytes image pagefile) refl (sym e ∙ f)
   where
-    go : (d : Read Sheet) → sheet_of bytes image pagefile ≡ d → sheet_read d ≡ sheet_told.Accepted h → h.count ≤ 1000
+    go : (d : Read Sheet) → sheet_of bytes image pagefile ≡ d → sheet_read d ≡ Ok h → h.count ≤ 1000
     go (got s at) g k =
         let n : length s.runs ≡ h.count = cc in
         omega (arith, (accepted_laws bytes image pagefile s at g).most)
     go (refused r) g k = absurd (let z : ◌≡◌ {A = ℕ} 0 1 = cc in omega arith)
 
-pub sheet_accepted : (c : Case) {d : Read Sheet} (old : List ℕ) (v : SheetRead) (new : List ℕ) (h : Header) → SheetAnswer d old v new → v ≡ sheet_told.Accepted h → Opens c d old (Ready h.space (3 * h.count)) new
+pub sheet_accepted : (c : Case) {d : Read Sheet} (old : List ℕ) (v : Result Header Fault) (new : List ℕ) (h : Header) → SheetAnswer d old v new → v ≡ Ok h → Opens c d old (Ready h.space (3 * h.count)) new
 sheet_accepted c {d} old v new h q f = record { same = go d (sym q.same ∙ f); rows = q.rows }
   where
-    go : (d : Read Sheet) → sheet_read d ≡ sheet_told.Accepted h → Ready h.space (3 * h.count) ≡ opened_of d
+    go : (d : Read Sheet) → sheet_read d ≡ Ok h → Ready h.space (3 * h.count) ≡ opened_of d
     go (got s at) k =
         let own : record { space = s.space; count = length s.runs } ≡ h = cc in
         ap (λ (x : Header). Ready x.space (3 * x.count)) (sym own)
     go (refused r) k = absurd (let z : ◌≡◌ {A = ℕ} 0 1 = cc in omega arith)
 
-pub sheet_refused : (c : Case) {d : Read Sheet} (old : List ℕ) (v : SheetRead) (new : List ℕ) (r : Fault) → SheetAnswer d old v new → v ≡ sheet_told.Refused r → Opens c d old (Refused r) new
+pub sheet_refused : (c : Case) {d : Read Sheet} (old : List ℕ) (v : Result Header Fault) (new : List ℕ) (r : Fault) → SheetAnswer d old v new → v ≡ Err r → Opens c d old (Refused r) new
 sheet_refused c {d} old v new r q f = record { same = go d (sym q.same ∙ f); rows = q.rows }
   where
-    go : (d : Read Sheet) → sheet_read d ≡ sheet_told.Refused r → Refused r ≡ opened_of d
+    go : (d : Read Sheet) → sheet_read d ≡ Err r → Refused r ≡ opened_of d
     go (got s at) k = absurd (let z : ◌≡◌ {A = ℕ} 0 1 = cc in omega arith)
     go (refused x) k = cc
 

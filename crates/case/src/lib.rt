@@ -10,7 +10,7 @@ ghost use Rattle.case.specs.Run.{MayRun, Ran};
 use base::{Fault, Refusal};
 use entry::PagingMode;
 use resolution::OpenCase;
-use sheet::{AddressSpace, SheetRead};
+use sheet::AddressSpace;
 use walk::{Place, Resolved};
 
 // 01's number, the addressed byte's offset in its file, and the entries read.
@@ -134,8 +134,8 @@ pub fn open_case(sheet: &[u8], image: &[u8], pagefile: &[u8], rows: &mut [u64]) 
     ensures { Opens (case_of sheet.now image.now pagefile.now) (check_of (case_of sheet.now image.now pagefile.now)) rows.old result rows.new }
 {
     match sheet_reader::read_sheet(sheet, image.len() as u64, pagefile.len() as u64, rows) {
-        SheetRead::Refused(fault) => Opened::Refused(fault),
-        SheetRead::Accepted(header) => {
+        Err(fault) => Opened::Refused(fault),
+        Ok(header) => {
             let space = header.space;
             Opened::Ready(space, 3 * header.count)
         }

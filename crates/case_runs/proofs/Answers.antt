@@ -1,12 +1,12 @@
 -- What the call hands back, after a reading over an empty part of the buffer and one over the part that the runs take.
 use Rattle.std.specs.Prelude.{Result, Ok, Err}
 use mathlib.Core.Path.{◌≡◌, refl, sym, ap, ◌∙◌}
-use mathlib.Core.List.{List, [], ◌∷◌, ◌++◌, append-nil}
+use mathlib.Core.List.{List, [], ◌++◌, append-nil}
 use Prim.Native.Nat.{ℕ, ◌+◌, ◌*◌, ◌<◌, ◌≤◌}
 use native.Mathlib.Nat.{zero-add}
 use native.Mathlib.Omega.{arith}
 use lib.ListN.{length, take, drop}
-use lib.Seq.{sets, sets-eq, take_at, drop_at, length-take-le, drop-length}
+use lib.Seq.{sets, sets-eq, length-take-le, drop-length}
 use borrow.Author.Tests.{lt-ltb, le-ltb}
 use Rattle.base.specs.declared.Fault.{Fault}
 use Rattle.base.specs.declared.Refusal.TheVariants.{ListBufferShort}

@@ -39,11 +39,8 @@ impl From<Fault> for CaseRead {
 
     fn from(fault: Fault) -> CaseRead {
         CaseRead {
-            number: fault.refusal.number(),
-            directory: 0,
-            mode: 0,
-            place: 0,
             length: fault.shown_position(),
+            ..fault.refusal.into()
         }
     }
 }
@@ -78,10 +75,10 @@ pub fn image_length(sheet: &[u8]) -> Written
     ensures { result ≡ image_length_of sheet.now }
 {
     match sheet_reader::read_fields(sheet, &mut []) {
-        Ok((_, pages)) => Written {
-            number: 0,
-            length: PAGE_BYTES * pages,
-        },
+        Ok((_, pages)) => {
+            let length = PAGE_BYTES * pages;
+            Written { number: 0, length }
+        }
         Err(fault) => fault.into(),
     }
 }

@@ -3,8 +3,8 @@
 // A refused sheet prints its number, and for 11 and 18 the position; an accepted one 0, the directory page, the paging mode's number and its place, the number of runs, and each run's first frame and pages.
 #![tactic(auto)]
 
-use base::Fault;
-use sheet::{Header, SheetRead};
+use base::{Fault, Refusal};
+use sheet::{Header, ModeNumbers};
 use std::io;
 use std::io::{ErrorKind, Read, Write};
 
@@ -56,12 +56,8 @@ fn check_one(
     }
     let mut rows = [0u64; 3000];
     match sheet_reader::read_sheet(bytes, image, pagefile, &mut rows) {
-        SheetRead::Refused(fault) => {
-            print_fault(output, fault)?;
-        }
-        SheetRead::Accepted(header) => {
-            print_case(output, header, &rows)?;
-        }
+        Ok(header) => print_case(output, header, &rows)?,
+        Err(fault) => print_fault(output, fault)?,
     }
     output.write_all(b"\n")?;
     Ok(true)
@@ -77,34 +73,24 @@ fn read_whole(input: &mut impl Read, bytes: &mut [u8]) -> io::Result<bool> {
 }
 
 fn print_fault(output: &mut impl Write, fault: Fault) -> io::Result<()> {
-    let refusal = fault.refusal;
-    let number = refusal.number();
+    let number = fault.refusal.number();
     write!(output, "{number}")?;
-    if number == 11 || number == 18 {
+    if let Refusal::NumberTooLong | Refusal::NumberNotShortest = fault.refusal {
         print_next(output, fault.shown_position())?;
     }
     Ok(())
 }
 
-fn print_case(output: &mut impl Write, header: Header, rows: &[u64; 3000]) -> io::Result<()> {
+fn print_case(output: &mut impl Write, header: Header, rows: &[u64]) -> io::Result<()> {
     write!(output, "0")?;
-    let space = header.space;
-    let directory = space.directory;
-    print_next(output, directory.number())?;
-    let mode = space.mode;
-    print_next(output, sheet::mode_number(mode))?;
-    print_next(output, sheet::place_of(mode))?;
-    let count = header.count;
-    print_next(output, count as u64)?;
-    let mut i = 0;
-    while i < 1000 {
-        if count <= i {
-            return Ok(());
-        }
-        let first = rows[3 * i];
-        print_next(output, first)?;
-        print_next(output, std::num::wrapping_sub_u64(rows[3 * i + 1], first))?;
-        i += 1;
+    print_next(output, header.space.directory.number())?;
+    let numbers = ModeNumbers::from(header.space.mode);
+    print_next(output, numbers.mode)?;
+    print_next(output, numbers.place)?;
+    print_next(output, header.count as u64)?;
+    for row in rows.chunks_exact(3).take(header.count) {
+        print_next(output, row[0])?;
+        print_next(output, row[1].wrapping_sub(row[0]))?;
     }
     Ok(())
 }

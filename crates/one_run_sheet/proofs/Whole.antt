@@ -6,12 +6,11 @@ use Prim.Native.Nat.{ℕ, ◌+◌, ◌*◌, ◌%◌, ◌^◌, ◌≤◌}
 use native.Mathlib.Omega.{arith}
 use lib.ListN.{length}
 use borrow.Author.Tests.{eq-eqb}
-use Rattle.varint.specs.Reader.{Read, got}
+use Rattle.varint.specs.Reader.{got}
 use Rattle.varint.specs.Groups.{number}
 use Rattle.entry.specs.Pages.{frame}
 use Rattle.entry.specs.declared.Frame.{Frame}
-use Rattle.sheet.specs.declared.Run.{Run}
-use Rattle.sheet.specs.Sheet.{Sheet, header, runs_from, own_fields, sheet_fields, sheet_of}
+use Rattle.sheet.specs.Sheet.{header, runs_from, own_fields, sheet_fields, sheet_of}
 use Rattle.sheet.proofs.OneRun.{run_read_lem}
 use Rattle.one_run_sheet.specs.OneRun.{one_run_sheet, Told}
 

@@ -1,8 +1,6 @@
 -- What reading a sheet of one run hands back.
-use Rattle.std.specs.Prelude.{ℕ, ◌+◌, ◌*◌, ◌%◌, ◌^◌, ◌≤◌, ◌≡◌, List, [], ◌∷◌, Option, Some, None}
+use Rattle.std.specs.Prelude.{ℕ, ◌≡◌, [], ◌∷◌, Option, Some, None}
 use Rattle.varint.specs.Reader.{Read, got}
-use Rattle.varint.specs.Groups.{number}
-use Rattle.entry.specs.Pages.{frame}
 use Rattle.entry.specs.declared.Frame.{Frame}
 use Rattle.entry.specs.declared.PagingMode.TheVariants.{FourLevel}
 use Rattle.sheet.specs.Sheet.{Sheet}

@@ -1,17 +1,15 @@
 -- The two numbers of a paging mode, and reading them from a sheet of edition 2, test by test.
 use mathlib.Core.Path.{◌≡◌, refl, sym}
 use mathlib.Core.List.{List}
-use mathlib.Core.Bool.{true, false, ◌&&◌}
-use Prim.Native.Nat.{ℕ, zero, suc, ◌<◌, ◌≤◌}
+use mathlib.Core.Bool.{true, ◌&&◌}
+use Prim.Native.Nat.{ℕ, zero, suc, ◌≤◌}
 use native.Mathlib.Omega.{arith}
 use lib.Dec.{leb, eqb}
-use borrow.Author.Tests.{le-leb, lt-leb, leb-true, eqb-true, ne_eqb}
+use borrow.Author.Tests.{le-leb, leb-true, eqb-true, ne_eqb}
 use Rattle.base.specs.Notation.{within}
-use Rattle.base.specs.Refusal.{unplaced}
-use Rattle.base.specs.declared.Fault.{Fault}
 use Rattle.base.specs.declared.Refusal.TheVariants.{OutOfLimits}
 use Rattle.base.proofs.Test.{both_true}
-use Rattle.varint.specs.Reader.{Read, got, refused, ◌>>=◌, ◌>>◌, return, need}
+use Rattle.varint.specs.Reader.{got, ◌>>=◌, ◌>>◌, return, need}
 use Rattle.varint.specs.Groups.{number}
 use Rattle.varint.proofs.Reader.{came, held, returned}
 use Rattle.entry.specs.declared.PagingMode.{PagingMode}

@@ -1,23 +1,13 @@
 -- How many runs a sheet has: few if its count says so.
-use mathlib.Core.Path.{◌≡◌, refl, sym, ap, ◌∙◌}
+use mathlib.Core.Path.{◌≡◌, sym, ap, ◌∙◌}
 use mathlib.Core.List.{List}
-use mathlib.Core.Bool.{Bool, true, false, and-false}
-use Prim.Native.Nat.{ℕ, ◌≤◌, ◌<◌}
+use mathlib.Core.Bool.{true}
+use Prim.Native.Nat.{ℕ, ◌≤◌}
 use native.Mathlib.Omega.{arith}
-use lib.Dec.{leb, ltb}
 use lib.ListN.{length}
-use borrow.Author.Tests.{leb-true, le-leb, lt-leb, lt-ltb, le-ltb}
-use Rattle.std.specs.Prelude.{if◌then◌else◌}
-use Rattle.base.specs.Notation.{within}
-use Rattle.base.specs.Refusal.{unplaced}
-use Rattle.base.specs.declared.Fault.{Fault}
-use Rattle.base.specs.declared.Refusal.TheVariants.{OutOfLimits}
-use Rattle.base.proofs.Test.{Test, test, below, above}
-use Rattle.varint.specs.Reader.{Read, got, refused}
-use Rattle.varint.specs.Groups.{number}
-use Rattle.entry.specs.Pages.{frame}
-use Rattle.entry.specs.declared.PagingMode.{PagingMode}
-use Rattle.sheet.specs.Sheet.{mode_by, header, Sheet, sheet_of}
+use borrow.Author.Tests.{leb-true}
+use Rattle.varint.specs.Reader.{got}
+use Rattle.sheet.specs.Sheet.{header, Sheet, sheet_of}
 use Rattle.sheet.specs.Inner.{few_runs}
 use Rattle.sheet.specs.declared.Header.{Header}
 use Rattle.sheet.proofs.AcceptedCase.{runs_chain, sheet_parts}

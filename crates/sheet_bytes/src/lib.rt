@@ -10,7 +10,7 @@ ghost use Rattle.sheet_bytes.specs.Inner.{written_sheet, Ready, Room, RunTaken};
 
 use entry::PagingMode;
 use joined_runs::RunBelowTop;
-use sheet::{Header, Run};
+use sheet::{Header, ModeNumbers, Run};
 
 // 02 order 7: the edition with a paging mode.
 const SECOND_EDITION: u64 = 2;
@@ -61,10 +61,9 @@ fn write_mode(out: &mut [u8], at: usize, mode: PagingMode) -> usize
     if let PagingMode::FourLevel = mode {
         return at;
     }
-    let number = sheet::mode_number(mode);
-    let place = sheet::place_of(mode);
-    let a = varint::write_number(out, at, number);
-    varint::write_number(out, a, place)
+    let numbers = ModeNumbers::from(mode);
+    let a = varint::write_number(out, at, numbers.mode);
+    varint::write_number(out, a, numbers.place)
 }
 
 // Writes the joined runs from a place on, and answers the place after them.

@@ -4,6 +4,8 @@
 ghost use Rattle.std.specs.Prelude.{◌≡◌};
 ghost use Rattle.sheet_limits.specs.Write.{all_below, in_limits};
 
+use sheet::ModeNumbers;
+
 // 02 order 4: each number is below 2^36.
 const NUMBER_LIMIT: u64 = 0x1000000000;
 
@@ -22,7 +24,7 @@ pub fn is_in_limits(directory: u64, mode: u64, place: u64, starts: &[u64], lengt
         && (1..=MOST_RUNS).contains(&starts.len())
         && directory < NUMBER_LIMIT
         && mode <= LAST_MODE
-        && sheet::is_place(mode, place)
+        && ModeNumbers { mode, place }.is_place()
         && all_below(starts)
         && all_below(lengths)
 }

@@ -8,7 +8,7 @@ ghost use Rattle.sheet_writer.specs.Inner.{answered};
 
 use base::{Refusal, Written};
 use entry::Frame;
-use sheet::{AddressSpace, Header};
+use sheet::{AddressSpace, Header, ModeNumbers};
 
 // No sheet is longer: 11 bytes before the runs, then at most 12 a run.
 const SHEET_BYTES: usize = 12011;
@@ -51,7 +51,7 @@ fn write_given(
     let count = joined_runs::count_runs(starts, lengths)?;
     let space = AddressSpace {
         directory: Frame::numbered(directory),
-        mode: sheet::paging_mode(mode, place),
+        mode: ModeNumbers { mode, place }.into(),
     };
     write_judged(Header { space, count }, starts, lengths, out)
 }

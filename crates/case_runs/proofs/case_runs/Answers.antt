@@ -1,7 +1,5 @@
 -- The check, then 53; then the rows over the buffer's front, turned into the numbers of the runs.
-use mathlib.Core.Path.{ap, ◌∙◌}
 use native.Mathlib.Omega.{arith}
-use Rattle.sheet.specs.declared.ModeNumbers.{ModeNumbers}
 use Rattle.case_runs.proofs.Answers.{refused_sheet, short_buffer, ordered, handed_back}
 use Rattle.case_runs.proofs.case_runs.Goals as goal
 
@@ -19,4 +17,4 @@ rows_to_runs-requires c =
 pub returns : goal.returns
 returns c =
     handed_back _ _ _ _ c.check_sheet.ensures _ _ c.in-Ok.is (omega (arith, c.if-out-header.false)) _ _ c.read_sheet-header.ensures
-    _ c.rows_to_runs.ensures _ _ _ c.number.ensures (ap (λ (x : ModeNumbers). x.mode) c.from-numbers.ensures) (ap (λ (x : ModeNumbers). x.place) c.from-numbers.ensures)
+    _ c.rows_to_runs.ensures _ _ _ c.number.ensures c.from-numbers.ensures.0 c.from-numbers.ensures.1

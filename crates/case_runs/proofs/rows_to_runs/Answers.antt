@@ -2,7 +2,7 @@
 use Prim.Native.Nat.{◌+◌, ◌*◌}
 use mathlib.Core.Path.{◌≡◌}
 use native.Mathlib.Omega.{arith}
-use Rattle.case_runs.proofs.Turning.{starts, row, inside, first_read, end_read, skipped_read, turned, ended}
+use Rattle.case_runs.proofs.Turning.{row, first_read, end_read, skipped_read, turned}
 use Rattle.case_runs.proofs.rows_to_runs.Goals as goal
 
 pub loop-i-preserved : goal.loop-i-preserved

@@ -18,7 +18,7 @@ returns-in_err-count c =
 
 pub write_judged-requires : goal.write_judged-requires
 write_judged-requires c =
-    rw (c.numbered.ensures, c.paging_mode.ensures) (ready _ _ _ _ _ (sym c.is_in_limits.ensures ∙ c.if-not-is_in_limits.false) _ c.in_ok-count.ensures)
+    rw (c.numbered.ensures, c.into.ensures) (ready _ _ _ _ _ (sym c.is_in_limits.ensures ∙ c.if-not-is_in_limits.false) _ c.in_ok-count.ensures)
 
 pub returns : goal.returns
-returns c = judged _ _ _ _ _ (sym c.is_in_limits.ensures ∙ c.if-not-is_in_limits.false) _ c.in_ok-count.ensures _ _ _ (rw (c.numbered.ensures, c.paging_mode.ensures) at c.write_judged.ensures)
+returns c = judged _ _ _ _ _ (sym c.is_in_limits.ensures ∙ c.if-not-is_in_limits.false) _ c.in_ok-count.ensures _ _ _ (rw (c.numbered.ensures, c.into.ensures) at c.write_judged.ensures)
