@@ -4,57 +4,54 @@
 ghost use Rattle.std.specs.Prelude.{◌≡◌, ◌+◌, ◌*◌, ◌%◌, ◌<◌, ◌≤◌, length};
 ghost use Rattle.resolution.specs.Open.{open_world};
 ghost use Rattle.case.specs.Case.{case_of};
-ghost use Rattle.case.specs.Inner.{row_numbers};
-ghost use Rattle.processor_block.specs.Block.{is_at, block_from};
+ghost use Rattle.processor_block.specs.Block.{is_at};
 ghost use Rattle.processor_block.specs.Call.{BlockAnswer};
-ghost use Rattle.processor_block.specs.Inner.{block_at, Passes};
+ghost use Rattle.processor_block.specs.Inner.{answer_of, block_at, block_in, Passes};
 
 mod candidate;
 
-use base::{PAGE_BYTES, Refusal};
+use base::{Fault, PAGE_BYTES, Refusal};
 use candidate::Candidate;
-use case::{Answer, Opened};
+use case::Answer;
 use entry::PagingMode;
 use resolution::OpenCase;
 use sheet::AddressSpace;
 use walk::Place;
 
+// An opened case whose image has whole pages.
+#[derive(Clone, Copy)]
+struct WholePages<'a> {
+    case: OpenCase<'a>,
+    ghost whole: { length case.image.now % 4096 ≡ 0 },
+}
+
 // The first processor block not below an offset: number 1, its offset, and the entries read for its Self.
 pub fn processor_block(sheet: &[u8], image: &[u8], pagefile: &[u8], from: u64) -> Answer
     ensures { BlockAnswer (case_of sheet.now image.now pagefile.now) from result }
 {
-    if sheet_header::has_few_runs(sheet) {
-        let mut few = [0u64; 96];
-        return search_over(sheet, image, pagefile, &mut few, from);
-    }
-    let mut rows = [0u64; 3000];
-    search_over(sheet, image, pagefile, &mut rows, from)
-}
-
-// The same, with the rows of the runs over lent numbers.
-fn search_over(sheet: &[u8], image: &[u8], pagefile: &[u8], rows: &mut [u64], from: u64) -> Answer
-    requires { row_numbers (case_of sheet.now image.now pagefile.now) ≤ length rows.old }
-    ensures { BlockAnswer (case_of sheet.now image.now pagefile.now) from result }
-{
-    match case::open_four_levels(sheet, image, pagefile, rows) {
-        Opened::Refused(fault) => case::fault_answer(fault),
-        Opened::Ready(space, n) => {
-            let case = OpenCase {
-                rows: &rows[..n],
-                space,
-                image,
-                pagefile,
-            };
-            search(&case, from)
-        }
+    let none: &mut [u8] = &mut [];
+    let found = case::with_case(
+        sheet,
+        image,
+        pagefile,
+        none,
+        |case, _|
+            requires { length case.image.now % 4096 ≡ 0 }
+        { search(case, from) },
+    );
+    match found {
+        Ok(answer) => answer,
+        Err(fault) => fault.into(),
     }
 }
 
-// The same of an opened case, whose image has whole pages: four words at a time are passed over, or judged one by one.
-fn search(case: &OpenCase, from: u64) -> Answer
-    requires { length case.now.image.now % 4096 ≡ 0 }
-    ensures { result ≡ block_from (open_world case.now) from }
+// The same of an opened case, whose image has whole pages: four words are passed over or judged one by one. A loop of single words took up to twice as long, by where it came to lie.
+fn search(case: OpenCase, from: u64) -> Result<Answer, Fault>
+    requires { length case.image.now % 4096 ≡ 0 }
+    ensures { answer_of result ≡ block_in case.entry.space.mode (open_world case.entry) from }
 {
+    let case = case::four_levels_case(case)?;
+    let pages = WholePages { case };
     let first = from.div_ceil(8);
     let words = case.image.len() as u64 / 8;
     // No block begins at the last 7 words.
@@ -62,13 +59,13 @@ fn search(case: &OpenCase, from: u64) -> Answer
         let i = first + 4 * four;
         if has_pair(case.image, i) {
             for word in i..i + 4 {
-                if let Some(answer) = block_at(case, 8 * word) {
-                    return answer;
+                if let Some(answer) = pages.block_at(8 * word) {
+                    return Ok(answer);
                 }
             }
         }
     }
-    case::refuse(Refusal::NoProcessorBlock)
+    Err(Refusal::NoProcessorBlock.into())
 }
 
 // May a block begin at one of the four words from the i-th on?
@@ -89,35 +86,36 @@ fn is_pair(image: &[u8], i: u64) -> bool
     own.wrapping_add(0x180) == prcb
 }
 
-// The answer for an offset, if it holds a block: number 1, and the entries read for its Self.
-fn block_at(case: &OpenCase, offset: u64) -> Option<Answer>
-    requires word { (offset < length case.now.image.now) × (offset % 8 ≡ 0) }
-    requires pages { length case.now.image.now % 4096 ≡ 0 }
-    ensures { result ≡ block_at (open_world case.now) offset }
-{
-    if 0xE28 < offset % PAGE_BYTES {
-        return None;
+impl WholePages<'_> {
+    // The answer for an offset, if it holds a block: number 1, and the entries read for its Self.
+    fn block_at(&self, offset: u64) -> Option<Answer>
+        requires { (offset < length self.now.case.image.now) × (offset % 8 ≡ 0) }
+        ensures { result ≡ block_at (open_world self.now.case) offset }
+    {
+        if 0xE28 < offset % PAGE_BYTES {
+            return None;
+        }
+        let candidate = Candidate {
+            image: self.case.image,
+            offset,
+        };
+        if !candidate.fits() {
+            return None;
+        }
+        let space = AddressSpace {
+            directory: candidate.directory(),
+            mode: PagingMode::FourLevel,
+        };
+        let found = OpenCase { space, ..self.case }.resolve(candidate.own());
+        if !is_at(found.place, offset) {
+            return None;
+        }
+        Some(Answer {
+            number: 1,
+            offset,
+            entries: found.entries,
+        })
     }
-    let candidate = Candidate {
-        image: case.image,
-        offset,
-    };
-    if !candidate.fits() {
-        return None;
-    }
-    let space = AddressSpace {
-        directory: candidate.directory(),
-        mode: PagingMode::FourLevel,
-    };
-    let found = OpenCase { space, ..*case }.resolve(candidate.own());
-    if !is_at(found.place, offset) {
-        return None;
-    }
-    Some(Answer {
-        number: 1,
-        offset,
-        entries: found.entries,
-    })
 }
 
 fn is_at(place: Place, o: u64) -> bool

@@ -1,15 +1,13 @@
--- 96 numbers are enough for the rows of a sheet with few runs, 3,000 for those of any.
-use Rattle.std.proofs.Common.{sym, ◌∙◌}
-use Rattle.case.specs.Case.{case_of}
-use Rattle.case.proofs.Opening.{enough_numbers, enough_for_few}
+-- What is found in the opened case is what the search says of the case.
+use Rattle.std.proofs.Common.{rules}
+use Rattle.processor_block.proofs.Answers.{may_search, block_answer}
 use Rattle.processor_block.proofs.processor_block.Goals as goal
 
-pub search_over-requires : goal.search_over-requires
-search_over-requires c =
-    let args = c.args in
-    enough_for_few (case_of args.sheet.now args.image.now args.pagefile.now) (sym c.has_few_runs.ensures ∙ c.if-has_few_runs.true)
+pub with_case-found-requires : goal.with_case-found-requires
+with_case-found-requires c = may_search _ _ (λ o l lent e. l)
 
-pub search_over-requires-2 : goal.search_over-requires-2
-search_over-requires-2 c =
-    let args = c.args in
-    enough_numbers (case_of args.sheet.now args.image.now args.pagefile.now)
+pub returns-in-Ok : goal.returns-in-Ok
+returns-in-Ok c = rw c.in-Ok.is at (block_answer _ c.args.from _ _ _ _ c.with_case-found.ensures (λ o lent left x h. search rules))
+
+pub returns-in-Err : goal.returns-in-Err
+returns-in-Err c = rw c.into.ensures (rw c.in-Err.is at (block_answer _ c.args.from _ _ _ _ c.with_case-found.ensures (λ o lent left x h. search rules)))

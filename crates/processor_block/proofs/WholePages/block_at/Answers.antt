@@ -1,7 +1,7 @@
 -- Each test of the code is a test of the definition, in the same order.
 use Rattle.std.proofs.Common.{sym, ◌∙◌}
 use Rattle.processor_block.proofs.Fitting.{too_far, unfit_none, elsewhere_none, here_some, own_walk}
-use Rattle.processor_block.proofs.block_at.Goals as goal
+use Rattle.processor_block.proofs.WholePages.block_at.Goals as goal
 
 pub returns-then-offset-gt3624 : goal.returns-then-offset-gt3624
 returns-then-offset-gt3624 c = unfit_none _ _ (too_far _ _ c.if-offset-gt3624.true)
@@ -17,4 +17,4 @@ returns-then-not-is_at c =
 pub returns : goal.returns
 returns c =
     here_some _ _ _ (own_walk _ _ _ _ _ c.own.ensures c.directory.ensures c.resolve-found.ensures)
-    c.requires.word.0 c.requires.word.1 (sym c.fits.ensures ∙ c.if-not-fits.false) (sym c.is_at.ensures ∙ c.if-not-is_at.false)
+    c.requires.0 c.requires.1 (sym c.fits.ensures ∙ c.if-not-fits.false) (sym c.is_at.ensures ∙ c.if-not-is_at.false)
