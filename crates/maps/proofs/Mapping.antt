@@ -1,4 +1,5 @@
 -- Writing a map page by page, and what the map call makes of it.
+use Rattle.std.specs.Prelude.{Result, Ok, Err}
 use mathlib.Core.Path.{◌≡◌, refl, ap, ◌∙◌}
 use mathlib.Core.Bool.{true, false}
 use mathlib.Core.List.{List, [], ◌∷◌, ◌++◌}
@@ -9,7 +10,8 @@ use lib.Seq.{sets, length-sets}
 use borrow.Author.Tests.{lt-ltb, le-ltb}
 use Rattle.base.specs.Codes.{is_code}
 use Rattle.base.specs.Overlay.{Wrote}
-use Rattle.base.specs.Written.{not_written}
+use Rattle.base.specs.Refusal.{unplaced}
+use Rattle.base.specs.declared.Fault.{Fault}
 use Rattle.base.specs.declared.Refusal.TheVariants.{BadMapRange, MapBufferShort}
 use Rattle.base.proofs.Codes.{code_small}
 use Rattle.base.proofs.Overlay.{sets_none, wrote_then}
@@ -28,7 +30,7 @@ use Rattle.map_format.specs.declared.MappedPage.{MappedPage}
 use Rattle.map_format.proofs.Answers.{Mappable}
 use Rattle.map_format.proofs.Building.{empty_at, taken_none, taken_then, taken_finish, header_length, room_empty, room_less, room_pushed}
 use Rattle.maps.specs.MapOf.{allowed, mapped_page_of, pages_of, header_of, map_of}
-use Rattle.maps.specs.Inner.{map_in}
+use Rattle.maps.specs.Inner.{map_into}
 use Rattle.maps.proofs.Ranges.{range_reached}
 
 -- an answer whose number is a code can stand in a map
@@ -108,21 +110,24 @@ wrote_long {o} {o'} {bs} {at} {r} q = rw q.bytes (length-sets o at bs)
 
 -- ---- the range, and the two passes
 
+-- the result and the buffer are those of a pair
+abbrev pub Told : Result ℕ Fault → List ℕ → Result ℕ Fault × List ℕ → Type 0
+Told r new told = (r, new) ≡ told
+
 module _ (w : World) (start count : ℕ) (old : List ℕ) where
-  pub bad_range : allowed w.space.mode start count ≡ false → record { answer = not_written BadMapRange; buffer = old } ≡ map_in w start count old
+  pub bad_range : allowed w.space.mode start count ≡ false → Told (Err (unplaced BadMapRange)) old (map_into w start count old)
   bad_range h = rw h
 
   module _ (range : allowed w.space.mode start count ≡ true) (last : List ℕ) (r : ℕ) (p : Wrote [] 0 (map_of w start count) r last) where
     nothing : last ≡ []
     nothing = p.bytes ∙ sets_none 0 (map_of w start count)
 
-    pub short_map : length (last ++ old) < r → record { answer = not_written MapBufferShort; buffer = last ++ old } ≡ map_in w start count old
+    pub short_map : length (last ++ old) < r → Told (Err (unplaced MapBufferShort)) (last ++ old) (map_into w start count old)
     short_map h =
         let l : length old < length (map_of w start count) = omega (arith, p.place, rw nothing at h) in
         rw (range, nothing, lt-ltb (length old) (length (map_of w start count)) l)
 
-    pub full_map : r ≤ length (last ++ old) → (r₂ : ℕ) (new : List ℕ) → Wrote (last ++ old) 0 (map_of w start count) r₂ new
-        → record { answer = record { number = 0; length = r }; buffer = new } ≡ map_in w start count old
+    pub full_map : r ≤ length (last ++ old) → (r₂ : ℕ) (new : List ℕ) → Wrote (last ++ old) 0 (map_of w start count) r₂ new → Told (Ok r) new (map_into w start count old)
     full_map h r₂ new q =
         let l : length (map_of w start count) ≤ length old = omega (arith, p.place, rw nothing at h) in
         let e : r ≡ length (map_of w start count) = omega (arith, p.place) in

@@ -1,35 +1,39 @@
 -- Demand 3, and the map call above the two passes.
 use mathlib.Core.Path.{◌≡◌, refl, sym, ap, subst, ◌∙◌}
-use mathlib.Core.Bool.{true, false}
+use mathlib.Core.Bool.{Bool, true, false}
 use mathlib.Core.List.{List, [], ◌∷◌}
 use Prim.Native.Nat.{ℕ, zero, suc, ◌+◌, ◌-◌, ◌*◌, ◌/◌, ◌%◌, ◌^◌, ◌≤◌, ◌<◌}
 use native.Mathlib.Omega.{arith}
 use lib.Dec.{ltb}
 use lib.ListN.{length, take, drop}
-use lib.Seq.{sets-eq, take_at}
+use lib.Seq.{sets, sets-eq, take_at}
 use borrow.Author.Tests.{lt-ltb, le-ltb, le-leb, ne_eqb}
-use Rattle.std.specs.Prelude.{if◌then◌else◌}
+use Rattle.std.specs.Prelude.{if◌then◌else◌, Result, Ok, Err}
+use Rattle.std.proofs.Common.{MutBor}
 use Rattle.base.specs.Notation.{bits}
-use Rattle.base.specs.Refusal.{refusal_number}
+use Rattle.base.specs.Refusal.{refusal_number, unplaced}
 use Rattle.base.specs.declared.Fault.{Fault}
 use Rattle.base.specs.declared.Refusal.{Refusal}
-use Rattle.base.specs.declared.Refusal.TheVariants.{MapBufferShort}
+use Rattle.base.specs.declared.Refusal.TheVariants.{BadMapRange, MapBufferShort}
 use Rattle.base.proofs.Test.{Test, test, below, above, both_true}
 use Rattle.base.proofs.Numbers.{ten_or_more}
-use Rattle.varint.specs.Reader.{refused}
-use Rattle.sheet.specs.Sheet.{run_pages}
-use Rattle.sheet.specs.declared.AddressSpace.{AddressSpace}
-use Rattle.sheet.proofs.AcceptedCase.{pages_below}
+use Rattle.varint.specs.Reader.{Read, got, refused}
+use Rattle.sheet.specs.Sheet.{Sheet, run_pages}
+use Rattle.sheet.proofs.AcceptedCase.{AcceptedCase, accepted_laws, pages_below}
 use Rattle.walk.specs.Walk.{World, world_of, resolve_of, number_of, offset_of}
 use Rattle.entry.specs.Addresses.{reachable, canonical, reachable_in}
-use Rattle.walk.specs.Rows.{rows_world}
+use Rattle.walk.proofs.CaseWorld.{sound_case}
+use Rattle.resolution.specs.Open.{open_world}
+use Rattle.resolution.specs.declared.OpenCase.{OpenCase}
 use Rattle.walk.specs.declared.Place.{Place}
 use Rattle.walk.specs.declared.Place.TheVariants.{Image, Pagefile, Zeros, Refused}
 use Rattle.walk.proofs.Ground.{Sound, At, resolve_at}
 use Rattle.walk.proofs.Codes.{resolve_coded}
 use Rattle.walk.proofs.SamePage.{moved, same_page}
-use Rattle.case.specs.Case.{Case, check_of}
-use Rattle.case.proofs.Opening.{Accepted, case_grounded}
+use Rattle.case.specs.Case.{Case, check_of, by_check}
+use Rattle.case.specs.Run.{MayRun, Ran}
+use Rattle.case.proofs.Running.{ran_in, nowhere}
+use Rattle.case.proofs.Opening.{case_grounded}
 use Rattle.map_format.specs.Reading.{map_fields}
 use Rattle.map_format.specs.Extents.{has_file_page, extents_of, page_at}
 use Rattle.map_format.specs.declared.Extent.{Extent}
@@ -43,11 +47,11 @@ use Rattle.lookup.specs.declared.Found.{Found}
 use Rattle.maps.specs.MapOf.{allowed, mapped_page_of, pages_of, header_of, map_of}
 use Rattle.maps.specs.Demand3.{walk_answer, AnswersAsWalk, Fewest, Demand3}
 use Rattle.maps.specs.Call.{map_outcome, map_call, MapAnswer}
-use Rattle.maps.specs.Inner.{map_in}
+use Rattle.maps.specs.Inner.{map_fits, map_into}
 use Rattle.base.specs.declared.Written.{Written}
-use Rattle.base.specs.Written.{fault_written}
+use Rattle.base.specs.Written.{WriteOutcome, fault_written, unwritten, written}
 use Rattle.maps.proofs.Ranges.{Allowed, allowed_range, in_range_lem, start_in_half, range_reached}
-use Rattle.maps.proofs.Mapping.{mappable, pages_long}
+use Rattle.maps.proofs.Mapping.{Told, mappable, pages_long}
 
 -- page k of the pages
 nth_page_lem : (n : ℕ) (w : World) (a k : ℕ) → k < n → nth_page (pages_of n w a) k ≡ mapped_page_of (resolve_of 3 w (a + 4096 * k)).place
@@ -197,28 +201,58 @@ module _ (w : World) (sound : Sound w) (small : length w.image ≤ 2 ^ 48) (star
 
 -- ---- the map call
 
+-- 0 and the length, or what is at fault
+abbrev pub as_written : Result ℕ Fault → Written
+as_written (Ok n) = record { number = 0; length = n }
+as_written (Err f) = fault_written f
+
 module _ (c : Case) where
-  -- an accepted image has at most 2^36 pages
-  pub small_image : (space : AddressSpace) (n : ℕ) (rows : List ℕ) → Accepted c space n rows → length c.image ≤ 2 ^ 48
-  small_image space n rows q =
-      let below : 0 + run_pages q.sheet.runs ≤ 2 ^ 36 = pages_below 0 0 q.sheet.runs (omega arith) q.laws.chain in
-      omega (arith, q.laws.image_pages)
+  module _ (s : Sheet) (at : ℕ) (e : check_of c ≡ got s at) where
+    abbrev laws : AcceptedCase (length c.image) (length c.pagefile) s
+    laws = accepted_laws c.sheet (length c.image) (length c.pagefile) s at e
 
-  module _ (start count : ℕ) (old : List ℕ) where
-    pub refused_case_map : (x : Fault) → check_of c ≡ refused x → (r : Written) → r ≡ fault_written x → MapAnswer c start count old r old
+    -- an accepted image has at most 2^36 pages
+    small_image : length c.image ≤ 2 ^ 48
+    small_image =
+        let below : 0 + run_pages s.runs ≤ 2 ^ 36 = pages_below 0 0 s.runs (omega arith) laws.chain in
+        omega (arith, laws.image_pages)
+
+  pub may_map : (P : OpenCase → Type 0) → ((o : OpenCase) → length o.image.now ≤ 2 ^ 48 → P o) → MayRun c P
+  may_map P h = go (check_of c) refl
+    where
+      go : (d : Read Sheet) → check_of c ≡ d → by_check c (λ f. Unit {0}) (λ w. (o : OpenCase) → open_world o ≡ w → P o) d
+      go (refused f) e = tt
+      go (got s at) e = λ o f. h o (rw (ap (λ (w : World). w.image) f) (small_image s at e))
+
+  module _ (start count : ℕ) (old : List ℕ) (post : OpenCase → MutBor (List ℕ) → Result ℕ Fault → MutBor (List ℕ) → Type 0) (r : Result ℕ Fault) (new : List ℕ) where
+    first : {p : Result ℕ Fault × List ℕ} → (r, new) ≡ p → r ≡ p.0
+    first e = ap (λ (q : Result ℕ Fault × List ℕ). q.0) e
+
+    last : {p : Result ℕ Fault × List ℕ} → (r, new) ≡ p → new ≡ p.1
+    last e = ap (λ (q : Result ℕ Fault × List ℕ). q.1) e
+
+    abbrev outcome : WriteOutcome
+    outcome = record { answer = as_written r; buffer = new }
+
+    fitted : (b : Bool) (map : List ℕ) → Told r new (if b then (Err (unplaced MapBufferShort), old) else (Ok (length map), sets old 0 map)) → outcome ≡ (if b then unwritten old MapBufferShort else written old map)
+    fitted true map e = rw (first e, last e, nowhere MapBufferShort)
+    fitted false map e = rw (first e, last e)
+
+    in_range : (b : Bool) (w : World) → Told r new (if b then map_fits old (map_of w start count) else (Err (unplaced BadMapRange), old)) → outcome ≡ (if b then map_outcome w start count old else unwritten old BadMapRange)
+    in_range true w e = fitted (ltb (length old) (length (map_of w start count))) (map_of w start count) e
+    in_range false w e = rw (first e, last e, nowhere BadMapRange)
+
+    pub map_answer : Ran c old post r new → ((o : OpenCase) (lent left : MutBor (List ℕ)) (x : Result ℕ Fault) → post o lent x left → (x, left.now) ≡ map_into (open_world o) start count lent.now) → MapAnswer c start count old (as_written r) new
     unfolding map_call
-    refused_case_map x e r g = record { same = rw (e, g); demand3 = rw e tt; grounded = case_grounded c }
-
-    module _ (space : AddressSpace) (n : ℕ) (rows : List ℕ) (q : Accepted c space n rows) where
-      abbrev world : World
-      world = world_of q.sheet c.image c.pagefile
-
-      pub mapped : (r : Written) (new : List ℕ) → record { answer = r; buffer = new } ≡ map_in (rows_world (take n rows) space c.image c.pagefile) start count old → MapAnswer c start count old r new
-      unfolding map_call
-      mapped r new e =
-          let e' : record { answer = r; buffer = new } ≡ map_in world start count old = e ∙ ap (λ (w : World). map_in w start count old) q.world in
-          record {
-            same = rw q.check e';
-            demand3 = rw q.check (λ x. let same : record { answer = r; buffer = new } ≡ map_outcome world start count old = rw x at e' in rw same (demand3 world q.sound (small_image space n rows q) start count x old));
-            grounded = case_grounded c;
-          }
+    map_answer ran each = go (check_of c) refl (ran_in c old post r new ran (λ w old r new. (r, new) ≡ map_into w start count old) each)
+      where
+        go : (d : Read Sheet) → check_of c ≡ d → by_check c (λ f. (r ≡ Err f) × (new ≡ old)) (λ w. (r, new) ≡ map_into w start count old) d → MapAnswer c start count old (as_written r) new
+        go (refused f) e k = record { same = rw (e, k.0, k.1); demand3 = rw e tt; grounded = case_grounded c }
+        go (got s at) e k =
+            let world : World = world_of s c.image c.pagefile in
+            let same : outcome ≡ (if allowed world.space.mode start count then map_outcome world start count old else unwritten old BadMapRange) = in_range (allowed world.space.mode start count) world k in
+            record {
+              same = rw e same;
+              demand3 = rw e (λ x. let inside : outcome ≡ map_outcome world start count old = rw x at same in rw inside (demand3 world (sound_case s c.image c.pagefile (laws s at e)) (small_image s at e) start count x old));
+              grounded = case_grounded c;
+            }

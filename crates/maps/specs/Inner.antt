@@ -1,18 +1,16 @@
--- What the inner functions of the map call hand back.
-use Rattle.std.specs.Prelude.{ℕ, List, Result, Ok, Err, if◌then◌else◌}
-use Rattle.base.specs.Written.{WriteOutcome, not_written, unwritten}
-use Rattle.base.specs.declared.Refusal.{Refusal}
-use Rattle.base.specs.declared.Refusal.TheVariants.{BadMapRange}
-use Rattle.base.specs.declared.Written.{Written}
+-- What the map call makes of an opened case.
+use Rattle.std.specs.Prelude.{ℕ, List, Result, Ok, Err, length, ltb, if◌then◌else◌}
+use Rattle.std.proofs.lemmas.List.Edits.{sets}
+use Rattle.base.specs.Refusal.{unplaced}
+use Rattle.base.specs.declared.Fault.{Fault}
+use Rattle.base.specs.declared.Refusal.TheVariants.{BadMapRange, MapBufferShort}
 use Rattle.walk.specs.Walk.{World}
-use Rattle.maps.specs.MapOf.{allowed}
-use Rattle.maps.specs.Call.{map_outcome}
+use Rattle.maps.specs.MapOf.{allowed, map_of}
 
--- 0 and the length of the map, or the refusal's number
-abbrev pub as_written : Result ℕ Refusal → Written
-as_written (Ok n) = record { number = 0; length = n }
-as_written (Err r) = not_written r
+-- the length of the map, and the buffer with it; or 44
+abbrev pub map_fits : List ℕ → List ℕ → Result ℕ Fault × List ℕ
+map_fits out map = if ltb (length out) (length map) then (Err (unplaced MapBufferShort), out) else (Ok (length map), sets out 0 map)
 
--- in an accepted case's world: the range, then 44
-abbrev pub map_in : World → ℕ → ℕ → List ℕ → WriteOutcome
-map_in w start count out = if allowed w.space.mode start count then map_outcome w start count out else unwritten out BadMapRange
+-- the range, then 44
+abbrev pub map_into : World → ℕ → ℕ → List ℕ → Result ℕ Fault × List ℕ
+map_into w start count out = if allowed w.space.mode start count then map_fits out (map_of w start count) else (Err (unplaced BadMapRange), out)

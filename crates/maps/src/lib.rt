@@ -5,13 +5,12 @@ ghost use Rattle.std.specs.Prelude.{◌≡◌, true, ◌≤◌, ◌^◌, length}
 ghost use Rattle.base.specs.Overlay.{Wrote};
 ghost use Rattle.resolution.specs.Open.{open_world};
 ghost use Rattle.case.specs.Case.{case_of};
-ghost use Rattle.case.specs.Inner.{row_numbers};
 ghost use Rattle.maps.specs.MapOf.{allowed, allowed_wide, allowed_narrow, mapped_page_of, map_of};
 ghost use Rattle.maps.specs.Call.{MapAnswer};
-ghost use Rattle.maps.specs.Inner.{as_written, map_in};
+ghost use Rattle.maps.specs.Inner.{map_into};
 
-use base::{PAGE_BYTES, Refusal, TOP_ADDRESS, Written};
-use case::Opened;
+use base::{Fault, PAGE_BYTES, Refusal, TOP_ADDRESS, Written};
+use case::Answer;
 use entry::{PagingMode, VirtualPage};
 use map_format::{Builder, Header, MappedPage};
 use resolution::OpenCase;
@@ -26,6 +25,16 @@ const UPPER_HALF: u64 = 0xFFFF800000000000;
 // 02, order 7: the addresses of a 32-bit profile lie below 2^32.
 const NARROW_END: u64 = 0x100000000;
 
+// A range of an opened case that can be mapped.
+#[derive(Clone, Copy)]
+struct Range<'a> {
+    case: OpenCase<'a>,
+    start: u64,
+    pages: u64,
+    ghost tested: { allowed case.space.mode start pages ≡ true },
+    ghost small: { length case.image.now ≤ 2 ^ 48 },
+}
+
 // The map of a range into the lent buffer.
 pub fn map_range(
     sheet: &[u8],
@@ -37,57 +46,35 @@ pub fn map_range(
 ) -> Written
     ensures { MapAnswer (case_of sheet.now image.now pagefile.now) start pages out.old result out.new }
 {
-    if sheet_header::has_few_runs(sheet) {
-        let mut few = [0u64; 96];
-        return map_over(sheet, image, pagefile, &mut few, start, pages, out);
-    }
-    let mut rows = [0u64; 3000];
-    map_over(sheet, image, pagefile, &mut rows, start, pages, out)
-}
-
-// The same, with the rows of the runs over lent numbers.
-fn map_over(
-    sheet: &[u8],
-    image: &[u8],
-    pagefile: &[u8],
-    rows: &mut [u64],
-    start: u64,
-    pages: u64,
-    out: &mut [u8],
-) -> Written
-    requires { row_numbers (case_of sheet.now image.now pagefile.now) ≤ length rows.old }
-    ensures { MapAnswer (case_of sheet.now image.now pagefile.now) start pages out.old result out.new }
-{
-    match case::open_case(sheet, image, pagefile, rows) {
-        Opened::Refused(fault) => fault.into(),
-        Opened::Ready(space, n) => {
-            let case = OpenCase {
-                rows: &rows[..n],
-                space,
-                image,
-                pagefile,
-            };
-            match map_in(&case, start, pages, out) {
-                Ok(length) => Written { number: 0, length },
-                Err(refusal) => refusal.into(),
-            }
-        }
+    let mapped = case::with_case(
+        sheet,
+        image,
+        pagefile,
+        out,
+        |case, out|
+            requires { length case.image.now ≤ 2 ^ 48 }
+        { map_in(case, start, pages, out) },
+    );
+    match mapped {
+        Ok(length) => Written { number: 0, length },
+        Err(fault) => fault.into(),
     }
 }
 
 // The same of an opened case: a measuring pass, then a writing one.
-fn map_in(case: &OpenCase, start: u64, pages: u64, out: &mut [u8]) -> Result<u64, Refusal>
-    requires { length case.now.image.now ≤ 2 ^ 48 }
-    ensures { record { answer = as_written result; buffer = out.new } ≡ map_in (open_world case.now) start pages out.old }
+fn map_in(case: OpenCase, start: u64, pages: u64, out: &mut [u8]) -> Result<u64, Fault>
+    requires { length case.image.now ≤ 2 ^ 48 }
+    ensures { (result, out.new) ≡ map_into (open_world case.entry) start pages out.old }
 {
     if !is_allowed(case.space.mode, start, pages) {
-        return Err(Refusal::BadMapRange);
+        return Err(Refusal::BadMapRange.into());
     }
-    let length = write_map(case, start, pages, &mut out[..0]);
+    let range = Range { case, start, pages };
+    let length = range.write_map(&mut out[..0]);
     if out.len() < length {
-        return Err(Refusal::MapBufferShort);
+        return Err(Refusal::MapBufferShort.into());
     }
-    write_map(case, start, pages, out);
+    range.write_map(out);
     Ok(length as u64)
 }
 
@@ -127,29 +114,30 @@ fn is_allowed_wide(start: u64, pages: u64) -> bool
         }
 }
 
-// Writes the map, and answers its length; bytes that fall past the buffer's end are counted and not written.
-fn write_map(case: &OpenCase, start: u64, pages: u64, out: &mut [u8]) -> usize
-    requires { (allowed case.now.space.mode start pages ≡ true) × (length case.now.image.now ≤ 2 ^ 48) }
-    ensures { Wrote out.old 0 (map_of (open_world case.now) start pages) result out.new }
-{
-    let header = Header {
-        start: VirtualPage::of_address(start),
-        count: pages,
-    };
-    let at = map_format::write_header(out, header);
-    let mut builder = Builder { at, last: None };
-    for i in 0..pages {
-        let found = case.resolve(start + PAGE_BYTES * i);
-        builder = builder.push(out, mapped_page(found));
+impl Range<'_> {
+    // Writes the map, and answers its length; bytes that fall past the buffer's end are counted and not written.
+    fn write_map(&self, out: &mut [u8]) -> usize
+        ensures { Wrote out.old 0 (map_of (open_world self.now.case) self.now.start self.now.pages) result out.new }
+    {
+        let header = Header {
+            start: VirtualPage::of_address(self.start),
+            count: self.pages,
+        };
+        let at = map_format::write_header(out, header);
+        let mut builder = Builder { at, last: None };
+        for i in 0..self.pages {
+            let found = self.case.resolve(self.start + PAGE_BYTES * i);
+            builder = builder.push(out, mapped_page(found));
+        }
+        builder.finish(out)
     }
-    builder.finish(out)
 }
 
-// A page of the map, from the answer for its first byte: the number as code, the offset in pages of the file.
+// A page of the map, from the answer for its first byte: the number as code, the offset in pages of the file. Neither type is of this crate, so it is no `From`.
 fn mapped_page(found: Resolved) -> MappedPage
     ensures { result ≡ mapped_page_of found.place }
 {
-    let answer = case::answer_of(found);
+    let answer = Answer::from(found);
     MappedPage {
         code: answer.number,
         file: answer.offset / PAGE_BYTES,

@@ -1,15 +1,13 @@
--- 96 numbers are enough for the rows of a sheet with few runs, 3,000 for those of any.
-use mathlib.Core.Path.{sym, ◌∙◌}
-use Rattle.case.specs.Case.{case_of}
-use Rattle.case.proofs.Opening.{enough_numbers, enough_for_few}
+-- What is mapped of the opened case is what the map call says of the case.
+use Rattle.std.proofs.Common.{rules}
+use Rattle.maps.proofs.Whole.{may_map, map_answer}
 use Rattle.maps.proofs.map_range.Goals as goal
 
-pub map_over-requires : goal.map_over-requires
-map_over-requires c =
-    let args = c.args in
-    enough_for_few (case_of args.sheet.now args.image.now args.pagefile.now) (sym c.has_few_runs.ensures ∙ c.if-has_few_runs.true)
+pub with_case-mapped-requires : goal.with_case-mapped-requires
+with_case-mapped-requires c = may_map _ _ (λ o l lent e. l)
 
-pub map_over-requires-2 : goal.map_over-requires-2
-map_over-requires-2 c =
-    let args = c.args in
-    enough_numbers (case_of args.sheet.now args.image.now args.pagefile.now)
+pub returns-in-Ok : goal.returns-in-Ok
+returns-in-Ok c = rw c.in-Ok.is at (map_answer _ c.args.start c.args.pages _ _ _ _ c.with_case-mapped.ensures (λ o lent left x h. search rules))
+
+pub returns-in-Err : goal.returns-in-Err
+returns-in-Err c = rw c.into.ensures (rw c.in-Err.is at (map_answer _ c.args.start c.args.pages _ _ _ _ c.with_case-mapped.ensures (λ o lent left x h. search rules)))
