@@ -1,6 +1,6 @@
--- What a caller of `open_case` has: the refusal of the check, or the world of the accepted case.
-use Rattle.std.specs.Prelude.{Result, Ok, Err}
-use mathlib.Core.Path.{◌≡◌, refl, sym, ap, subst, ◌∙◌}
+-- What an opened case is: the world of the accepted case, over rows that are enough.
+use Rattle.std.specs.Prelude.{Result, Ok}
+use mathlib.Core.Path.{◌≡◌, refl, sym, ap, ◌∙◌}
 use mathlib.Core.List.{List}
 use mathlib.Core.Bool.{true}
 use Prim.Native.Nat.{ℕ, ◌+◌, ◌*◌, ◌≤◌}
@@ -11,9 +11,7 @@ use Rattle.base.specs.declared.Fault.{Fault}
 use Rattle.varint.specs.Reader.{Read, got, refused}
 use Rattle.sheet.specs.Sheet.{Sheet, header, sheet_of}
 use Rattle.sheet.specs.Inner.{few_runs}
-use Rattle.sheet.specs.Call.{rows_from, RowsLaid, sheet_read, SheetAnswer}
-use Rattle.entry.specs.declared.PagingMode.{PagingMode}
-use Rattle.entry.specs.declared.PagingMode.TheVariants.{FourLevel, Plain, Pae}
+use Rattle.sheet.specs.Call.{rows_from, RowsLaid, sheet_read}
 use Rattle.sheet.specs.declared.AddressSpace.{AddressSpace}
 use Rattle.sheet.specs.declared.Header.{Header}
 use Rattle.sheet.specs.declared.Run.{Run}
@@ -21,14 +19,12 @@ use Rattle.sheet.proofs.ManyRuns.{rows_length}
 use Rattle.sheet.proofs.AcceptedCase.{AcceptedCase, accepted_laws}
 use Rattle.sheet.proofs.Short.{few_runs_lem}
 use Rattle.walk.specs.Walk.{world_of, resolve_of, Grounded}
-use Rattle.walk.specs.Rows.{four_levels, rows_world}
+use Rattle.walk.specs.Rows.{rows_world}
 use Rattle.walk.proofs.Ground.{Sound, grounded}
 use Rattle.walk.proofs.CaseWorld.{same_world, sound_case}
-use Rattle.case.specs.Case.{Case, check_of, by_check, served_in, served}
+use Rattle.case.specs.Case.{Case, check_of, by_check}
 use Rattle.case.specs.Answer.{GroundedAt}
-use Rattle.case.specs.Inner.{numbers_of, row_numbers, opened_of, served_of, Opens}
-use Rattle.case.specs.declared.Opened.{Opened}
-use Rattle.case.specs.declared.Opened.TheVariants.{Ready, Refused}
+use Rattle.case.specs.Inner.{numbers_of, row_numbers, opened_of, Opens}
 
 -- ---- open_case
 
@@ -42,30 +38,7 @@ few_rows bytes image pagefile v h e f = go (sheet_of bytes image pagefile) refl 
         omega (arith, (accepted_laws bytes image pagefile s at g).most)
     go (refused r) g k = absurd (let z : ◌≡◌ {A = ℕ} 0 1 = cc in omega arith)
 
-pub sheet_accepted : (c : Case) {d : Read Sheet} (old : List ℕ) (v : Result Header Fault) (new : List ℕ) (h : Header) → SheetAnswer d old v new → v ≡ Ok h → Opens c d old (Ready h.space (3 * h.count)) new
-sheet_accepted c {d} old v new h q f = record { same = go d (sym q.same ∙ f); rows = q.rows }
-  where
-    go : (d : Read Sheet) → sheet_read d ≡ Ok h → Ready h.space (3 * h.count) ≡ opened_of d
-    go (got s at) k =
-        let own : record { space = s.space; count = length s.runs } ≡ h = cc in
-        ap (λ (x : Header). Ready x.space (3 * x.count)) (sym own)
-    go (refused r) k = absurd (let z : ◌≡◌ {A = ℕ} 0 1 = cc in omega arith)
-
-pub sheet_refused : (c : Case) {d : Read Sheet} (old : List ℕ) (v : Result Header Fault) (new : List ℕ) (r : Fault) → SheetAnswer d old v new → v ≡ Err r → Opens c d old (Refused r) new
-sheet_refused c {d} old v new r q f = record { same = go d (sym q.same ∙ f); rows = q.rows }
-  where
-    go : (d : Read Sheet) → sheet_read d ≡ Err r → Refused r ≡ opened_of d
-    go (got s at) k = absurd (let z : ◌≡◌ {A = ℕ} 0 1 = cc in omega arith)
-    go (refused x) k = cc
-
--- ---- its callers
-
-pub refused_case : (c : Case) {d : Read Sheet} (old : List ℕ) (v : Opened) (new : List ℕ) (r : Fault) → Opens c d old v new → v ≡ Refused r → d ≡ refused r
-refused_case c {d} old v new r q f = go d (sym q.same ∙ f)
-  where
-    go : (d : Read Sheet) → opened_of d ≡ Refused r → d ≡ refused r
-    go (got s at) k = absurd (let z : ◌≡◌ {A = ℕ} 0 1 = cc in omega arith)
-    go (refused x) k = cc
+-- ---- its caller
 
 -- the rows stand at the front of numbers that are enough
 rows_front : (old : List ℕ) (rs : List Run) → 3 * length rs ≤ length old → take (3 * length rs) (sets old 0 (rows_from 0 rs)) ≡ rows_from 0 rs
@@ -100,14 +73,15 @@ pub record Accepted (c : Case) (space : AddressSpace) (n : ℕ) (rows : List ℕ
   pub laws : AcceptedCase (length c.image) (length c.pagefile) sheet
   pub sound : Sound (world_of sheet c.image c.pagefile)
 
-pub accepted_case : (c : Case) (old : List ℕ) (v : Opened) (new : List ℕ) (space : AddressSpace) (n : ℕ) → row_numbers c ≤ length old → Opens c (check_of c) old v new → v ≡ Ready space n → Accepted c space n new
-accepted_case c old v new space n h q f = go (check_of c) refl q.rows (sym q.same ∙ f)
+pub accepted_case : (c : Case) (old : List ℕ) (v : Result (AddressSpace × ℕ) Fault) (new : List ℕ) (p : AddressSpace × ℕ) → row_numbers c ≤ length old → Opens (check_of c) old v new → v ≡ Ok p → Accepted c p.0 p.1 new
+accepted_case c old v new p h q f = go (check_of c) refl q.rows (sym q.same ∙ f)
   where
-    go : (d : Read Sheet) → check_of c ≡ d → RowsLaid old d new → opened_of d ≡ Ready space n → Accepted c space n new
+    go : (d : Read Sheet) → check_of c ≡ d → RowsLaid old d new → opened_of d ≡ Ok p → Accepted c p.0 p.1 new
     go (got s at) g l k =
         let q : AcceptedCase (length c.image) (length c.pagefile) s = accepted_laws c.sheet (length c.image) (length c.pagefile) s at g in
-        let own : s.space ≡ space = cc in
-        let many : 3 * length s.runs ≡ n = cc in
+        let both : (s.space, 3 * length s.runs) ≡ p = cc in
+        let own : s.space ≡ p.0 = ap (λ (x : AddressSpace × ℕ). x.0) both in
+        let many : 3 * length s.runs ≡ p.1 = ap (λ (x : AddressSpace × ℕ). x.1) both in
         let all : row_numbers c ≡ 3 * length s.runs = ap numbers_of g in
         let front : take (3 * length s.runs) new ≡ rows_from 0 s.runs = rw l (rows_front old s.runs (omega arith)) in
         record {
@@ -129,70 +103,3 @@ case_grounded c a = go (check_of c) refl
     go (refused f) e = tt
     go (got s at) e =
         grounded (world_of s c.image c.pagefile) (sound_case s c.image c.pagefile (accepted_laws c.sheet (length c.image) (length c.pagefile) s at e)) a
-
--- ---- a call that serves four levels alone
-
-served_sheet : (m : PagingMode) (s : Sheet) (at : ℕ) → served_of s.space (3 * length s.runs) m ≡ opened_of (served_in m (got s at))
-served_sheet FourLevel s at = refl
-served_sheet Plain s at = refl
-served_sheet (Pae place) s at = refl
-
-served_rows : (m : PagingMode) (s : Sheet) (at : ℕ) (old new : List ℕ) → RowsLaid old (got s at) new → RowsLaid old (served_in m (got s at)) new
-served_rows FourLevel s at old new h = h
-served_rows Plain s at old new h = tt
-served_rows (Pae place) s at old new h = tt
-
-pub four_refused : (c : Case) {d : Read Sheet} (old : List ℕ) (v : Opened) (new : List ℕ) (r : Fault) → Opens c d old v new → v ≡ Refused r → Opens c (served d) old (Refused r) new
-four_refused c {d} old v new r q f = rw (refused_case c old v new r q f) (record { same = refl; rows = tt })
-
-pub four_ready : (c : Case) {d : Read Sheet} (old : List ℕ) (v : Opened) (new : List ℕ) (space : AddressSpace) (n : ℕ) → Opens c d old v new → v ≡ Ready space n
-    → (r : Opened) → r ≡ served_of space n space.mode → Opens c (served d) old r new
-four_ready c {d} old v new space n q f r e = go d q.rows (sym q.same ∙ f)
-  where
-    go : (d : Read Sheet) → RowsLaid old d new → opened_of d ≡ Ready space n → Opens c (served d) old r new
-    go (got s at) l k =
-        let own : s.space ≡ space = cc in
-        let many : 3 * length s.runs ≡ n = cc in
-        record { same = e ∙ rw (← own, ← many) (served_sheet s.space.mode s at); rows = served_rows s.space.mode s at old new l }
-    go (refused x) l k = absurd (let z : ◌≡◌ {A = ℕ} 0 1 = cc in omega arith)
-
--- an accepted case of four levels
-pub record AcceptedFour (c : Case) (space : AddressSpace) (n : ℕ) (rows : List ℕ) : Type 0 where
-  pub case : Accepted c space n rows
-  pub check : served (check_of c) ≡ got case.sheet case.at
-  pub four : space ≡ four_levels space.directory
-
-served_four : (m : PagingMode) (s : Sheet) (at : ℕ) (space : AddressSpace) (n : ℕ) → s.space.mode ≡ m → opened_of (served_in m (got s at)) ≡ Ready space n → space.mode ≡ FourLevel
-served_four FourLevel s at space n e k =
-    let own : s.space ≡ space = cc in
-    ap (λ (x : AddressSpace). x.mode) (sym own) ∙ e
-served_four Plain s at space n e k = absurd (let z : ◌≡◌ {A = ℕ} 0 1 = cc in omega arith)
-served_four (Pae place) s at space n e k = absurd (let z : ◌≡◌ {A = ℕ} 0 1 = cc in omega arith)
-
-pub accepted_four : (c : Case) (old : List ℕ) (v : Opened) (new : List ℕ) (space : AddressSpace) (n : ℕ) → row_numbers c ≤ length old → Opens c (served (check_of c)) old v new → v ≡ Ready space n → AcceptedFour c space n new
-accepted_four c old v new space n h q f =
-    let all = accepted_case c old v new space n h (record { same = own.0; rows = own.1 }) f in
-    record {
-      case = all;
-      check = same_check (check_of c) ready ∙ all.check;
-      four = ap (λ (m : PagingMode). record { directory = space.directory; mode = m }) (mode (check_of c) ready);
-    }
-  where
-    whole : (m : PagingMode) (s : Sheet) (at : ℕ) → opened_of (served_in m (got s at)) ≡ Ready space n → served_in m (got s at) ≡ got s at
-    whole FourLevel s at k = refl
-    whole Plain s at k = absurd (let z : ◌≡◌ {A = ℕ} 0 1 = cc in omega arith)
-    whole (Pae place) s at k = absurd (let z : ◌≡◌ {A = ℕ} 0 1 = cc in omega arith)
-
-    ready : opened_of (served (check_of c)) ≡ Ready space n
-    ready = sym q.same ∙ f
-
-    same_check : (d : Read Sheet) → opened_of (served d) ≡ Ready space n → served d ≡ d
-    same_check (got s at) k = whole s.space.mode s at k
-    same_check (refused x) k = refl
-
-    mode : (d : Read Sheet) → opened_of (served d) ≡ Ready space n → space.mode ≡ FourLevel
-    mode (got s at) k = served_four s.space.mode s at space n refl k
-    mode (refused x) k = absurd (let z : ◌≡◌ {A = ℕ} 0 1 = cc in omega arith)
-
-    own : (v ≡ opened_of (check_of c)) × RowsLaid old (check_of c) new
-    own = let e = same_check (check_of c) ready in (q.same ∙ ap opened_of e, subst (λ (d : Read Sheet). RowsLaid old d new) e q.rows)

@@ -2,9 +2,9 @@
 #![tactic(auto)]
 
 ghost use Rattle.std.specs.Prelude.{◌≡◌, ◌≤◌, length};
-ghost use Rattle.case.specs.Case.{case_of, check_of, served};
+ghost use Rattle.case.specs.Case.{case_of, check_of};
 ghost use Rattle.case.specs.Answer.{place_answer, refusal, fault_answer};
-ghost use Rattle.case.specs.Inner.{Opens, row_numbers, served_of, four_levels_case};
+ghost use Rattle.case.specs.Inner.{Opens, row_numbers, four_levels_case};
 ghost use Rattle.case.specs.Run.{MayRun, Ran};
 
 use base::{Fault, Refusal};
@@ -20,13 +20,6 @@ pub struct Answer {
     pub number: u64,
     pub offset: u64,
     pub entries: u64,
-}
-
-// The address space of an accepted case and how many numbers its rows take, or what is at fault.
-#[derive(Clone, Copy)]
-pub enum Opened {
-    Ready(AddressSpace, usize),
-    Refused(Fault),
 }
 
 impl From<Refusal> for Answer {
@@ -104,18 +97,27 @@ fn run_over<T, R, F: FnOnce(OpenCase, &mut [T]) -> Result<R, Fault>>(
     requires may_run { MayRun (case_of sheet.now image.now pagefile.now) (λ o. (lent : _) → lent.now ≡ out.old → F.pre call o lent) }
     ensures { Ran (case_of sheet.now image.now pagefile.now) out.old (λ o lent r left. F.post call o lent r left) result out.new }
 {
-    match open_case(sheet, image, pagefile, rows) {
-        Opened::Refused(fault) => Err(fault),
-        Opened::Ready(space, n) => {
-            let opened = OpenCase {
-                rows: &rows[..n],
-                space,
-                image,
-                pagefile,
-            };
-            call(opened, out)
-        }
-    }
+    let (space, n) = open_case(sheet, image, pagefile, rows)?;
+    let opened = OpenCase {
+        rows: &rows[..n],
+        space,
+        image,
+        pagefile,
+    };
+    call(opened, out)
+}
+
+// Checks the sheet and the two lengths, and lays the rows of the runs over the lent numbers: the address space, and how many numbers the rows take.
+fn open_case(
+    sheet: &[u8],
+    image: &[u8],
+    pagefile: &[u8],
+    rows: &mut [u64],
+) -> Result<(AddressSpace, usize), Fault>
+    ensures { Opens (check_of (case_of sheet.now image.now pagefile.now)) rows.old result rows.new }
+{
+    let header = sheet_reader::read_sheet(sheet, image.len() as u64, pagefile.len() as u64, rows)?;
+    Ok((header.space, 3 * header.count))
 }
 
 // The case again for a call that serves four levels alone: the other modes are 37.
@@ -127,58 +129,4 @@ pub fn four_levels_case(case: OpenCase<'_>) -> Result<OpenCase<'_>, Refusal>
         PagingMode::Plain => Err(Refusal::ModeNotServed),
         PagingMode::Pae(_) => Err(Refusal::ModeNotServed),
     }
-}
-
-// Checks the sheet and the two lengths, and lays the rows of the runs over the lent numbers.
-pub fn open_case(sheet: &[u8], image: &[u8], pagefile: &[u8], rows: &mut [u64]) -> Opened
-    ensures { Opens (case_of sheet.now image.now pagefile.now) (check_of (case_of sheet.now image.now pagefile.now)) rows.old result rows.new }
-{
-    match sheet_reader::read_sheet(sheet, image.len() as u64, pagefile.len() as u64, rows) {
-        Err(fault) => Opened::Refused(fault),
-        Ok(header) => {
-            let space = header.space;
-            Opened::Ready(space, 3 * header.count)
-        }
-    }
-}
-
-// The same for a call that serves four levels alone: the other modes are 37.
-pub fn open_four_levels(sheet: &[u8], image: &[u8], pagefile: &[u8], rows: &mut [u64]) -> Opened
-    ensures { Opens (case_of sheet.now image.now pagefile.now) (served (check_of (case_of sheet.now image.now pagefile.now))) rows.old result rows.new }
-{
-    match open_case(sheet, image, pagefile, rows) {
-        Opened::Refused(fault) => Opened::Refused(fault),
-        Opened::Ready(space, n) => served(space, n),
-    }
-}
-
-fn served(space: AddressSpace, n: usize) -> Opened
-    ensures { result ≡ served_of space n space.mode }
-{
-    let mode = space.mode;
-    match mode {
-        PagingMode::FourLevel => Opened::Ready(space, n),
-        PagingMode::Plain => Opened::Refused(Fault::unplaced(Refusal::ModeNotServed)),
-        PagingMode::Pae(_) => Opened::Refused(Fault::unplaced(Refusal::ModeNotServed)),
-    }
-}
-
-pub fn refuse(r: Refusal) -> Answer
-    ensures { result ≡ refusal r }
-{
-    r.into()
-}
-
-// The same for a sheet at fault.
-pub fn fault_answer(fault: Fault) -> Answer
-    ensures { result ≡ fault_answer fault }
-{
-    fault.into()
-}
-
-// 01's number and offset of where an address leads.
-pub fn answer_of(found: Resolved) -> Answer
-    ensures { result ≡ place_answer found.place found.entries }
-{
-    found.into()
 }
