@@ -95,7 +95,7 @@ fn fill(case: &OpenCase, address: u64, n: u64, out: &mut [u8]) -> Result<bool, R
         }
         let a = address + i;
         let m = (4096 - a % 4096).min(n - i);
-        zeros = zeros | fill_page(case, a, m, out, i)?;
+        zeros |= fill_page(case, a, m, out, i)?;
         i += m;
     }
     Ok(zeros)
