@@ -1,11 +1,9 @@
 -- Canonical addresses of 64 bits: what lies above bit 46 decides.
 use mathlib.Core.Path.{◌≡◌, refl}
-use mathlib.Core.Bool.{true, false}
-use Prim.Native.Nat.{ℕ, ◌/◌, ◌^◌, ◌<◌, ◌≤◌}
+use mathlib.Core.Bool.{false}
+use Prim.Native.Nat.{ℕ, ◌^◌, ◌<◌, ◌≤◌}
 use native.Mathlib.Omega.{arith}
-use lib.Dec.{eqb}
-use borrow.Author.Tests.{lt-ltb, le-ltb, eq-eqb, ne_eqb}
-use Rattle.base.specs.Notation.{bits}
+use borrow.Author.Tests.{lt-ltb, le-ltb}
 use Rattle.entry.specs.Addresses.{canonical, reachable, reachable_in}
 use Rattle.entry.specs.declared.PagingMode.{PagingMode}
 use Rattle.entry.specs.declared.PagingMode.TheVariants.{FourLevel, Plain, Pae}

@@ -2,7 +2,7 @@
 #![tactic(auto)]
 
 ghost use Rattle.std.specs.Prelude.{◌≡◌};
-ghost use Rattle.entry.specs.Entry.{row, level_of};
+ghost use Rattle.entry.specs.Entry.{row, level_of, levels_below};
 
 use base::Refusal;
 use entry::{Level, PageSize, PagingMode};
@@ -25,6 +25,17 @@ pub fn level_at(mode: PagingMode, below: u64) -> Level
         (PagingMode::Pae(_), 0) => level_row(12, 512, 8, PageSize::Page4K, None, false),
         (PagingMode::Pae(_), 1) => level_row(21, 512, 8, PageSize::Page2M, reserved, false),
         (PagingMode::Pae(_), _) => level_row(30, 4, 8, PageSize::Page4K, reserved, false),
+    }
+}
+
+// How many levels lie below the top table.
+pub fn levels_below(mode: PagingMode) -> u64
+    ensures { result ≡ levels_below mode }
+{
+    match mode {
+        PagingMode::FourLevel => 3,
+        PagingMode::Plain => 1,
+        PagingMode::Pae(_) => 2,
     }
 }
 
