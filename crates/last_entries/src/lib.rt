@@ -13,14 +13,7 @@ const REGION_VALUE: u64 = 0xFFFFFFFF0000;
 const HIGH_BITS: u64 = 0xFFFF000000000000;
 
 // A last-level entry of a paging mode: the 32-bit profiles follow two states, four levels all.
-#[tactic(
-    auto,
-    unfolding(
-        entry::specs::Entry::leaf_in,
-        entry::specs::Entry::leaf_of,
-        entry::specs::Entry::narrow_leaf_of
-    )
-)]
+#[tactic(auto, unfolding(entry::specs::Entry::leaf_in, entry::specs::Entry::leaf_of, entry::specs::Entry::narrow_leaf_of))]
 pub fn last_entry(mode: PagingMode, e: u64) -> Leaf
     ensures { result ≡ leaf_in mode e }
 {

@@ -20,7 +20,14 @@ pub fn level_at(mode: PagingMode, below: u64) -> Level
         (PagingMode::FourLevel, _) => level_row(39, 512, 8, PageSize::Page4K, reserved, false),
         (PagingMode::Plain, 0) => level_row(12, 1024, 4, PageSize::Page4K, None, false),
         (PagingMode::Plain, _) => {
-            level_row(22, 1024, 4, PageSize::Page4M, Some(Refusal::FrameTooWide), false)
+            level_row(
+                22,
+                1024,
+                4,
+                PageSize::Page4M,
+                Some(Refusal::FrameTooWide),
+                false,
+            )
         }
         (PagingMode::Pae(_), 0) => level_row(12, 512, 8, PageSize::Page4K, None, false),
         (PagingMode::Pae(_), 1) => level_row(21, 512, 8, PageSize::Page2M, reserved, false),
