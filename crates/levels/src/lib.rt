@@ -13,22 +13,14 @@ pub fn level_at(mode: PagingMode, below: u64) -> Level
     ensures { result ≡ level_of mode below }
 {
     let reserved = Some(Refusal::ReservedBitSet);
+    let too_wide = Some(Refusal::FrameTooWide);
     match (mode, below) {
         (PagingMode::FourLevel, 0) => level_row(12, 512, 8, PageSize::Page4K, None, false),
         (PagingMode::FourLevel, 1) => level_row(21, 512, 8, PageSize::Page2M, reserved, true),
         (PagingMode::FourLevel, 2) => level_row(30, 512, 8, PageSize::Page1G, reserved, false),
         (PagingMode::FourLevel, _) => level_row(39, 512, 8, PageSize::Page4K, reserved, false),
         (PagingMode::Plain, 0) => level_row(12, 1024, 4, PageSize::Page4K, None, false),
-        (PagingMode::Plain, _) => {
-            level_row(
-                22,
-                1024,
-                4,
-                PageSize::Page4M,
-                Some(Refusal::FrameTooWide),
-                false,
-            )
-        }
+        (PagingMode::Plain, _) => level_row(22, 1024, 4, PageSize::Page4M, too_wide, false),
         (PagingMode::Pae(_), 0) => level_row(12, 512, 8, PageSize::Page4K, None, false),
         (PagingMode::Pae(_), 1) => level_row(21, 512, 8, PageSize::Page2M, reserved, false),
         (PagingMode::Pae(_), _) => level_row(30, 4, 8, PageSize::Page4K, reserved, false),

@@ -21,15 +21,8 @@ pub fn descend(rows: &[u64], image: &[u8], space: AddressSpace, address: u64) ->
 {
     let (mode, offset) = placed(space.mode);
     let top = frames::locate(rows, image.len() as u64, space.directory);
-    descend_from(
-        rows,
-        image,
-        mode,
-        levels::levels_below(mode),
-        offset,
-        top,
-        address,
-    )
+    let below = levels::levels_below(mode);
+    descend_from(rows, image, mode, below, offset, top, address)
 }
 
 // A paging mode whose place is one of those in a page, and where its top table begins there.

@@ -7,4 +7,4 @@ pub descend_from-requires-clause-inside : goal.descend_from-requires-clause-insi
 descend_from-requires-clause-inside c = rows_inside _ _ _ _ c.locate-top.ensures
 
 pub descend_from-requires-clause-fits : goal.descend_from-requires-clause-fits
-descend_from-requires-clause-fits c = rw (c.levels_below.ensures, c.placed-mode.ensures.0, c.placed-mode.ensures.1) (placed_fits c.args.space.mode)
+descend_from-requires-clause-fits c = rw (c.levels_below-below.ensures, c.placed-mode.ensures.0, c.placed-mode.ensures.1) (placed_fits c.args.space.mode)
