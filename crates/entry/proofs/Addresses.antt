@@ -1,29 +1,17 @@
 -- Canonical addresses of 64 bits: what lies above bit 46 decides.
 use mathlib.Core.Path.{◌≡◌, refl}
-use mathlib.Core.Bool.{true, false}
-use Prim.Native.Nat.{ℕ, ◌/◌, ◌^◌, ◌<◌, ◌≤◌}
+use mathlib.Core.Bool.{false}
+use Prim.Native.Nat.{ℕ, ◌^◌, ◌<◌, ◌≤◌}
 use native.Mathlib.Omega.{arith}
-use lib.Dec.{eqb}
-use borrow.Author.Tests.{lt-ltb, le-ltb, eq-eqb, ne_eqb}
-use Rattle.base.specs.Notation.{bits}
+use borrow.Author.Tests.{lt-ltb, le-ltb}
 use Rattle.entry.specs.Addresses.{canonical, reachable, reachable_in}
 use Rattle.entry.specs.declared.PagingMode.{PagingMode}
 use Rattle.entry.specs.declared.PagingMode.TheVariants.{FourLevel, Plain, Pae}
 
 -- an address of 64 bits is reachable exactly if it is canonical
-pub reaches : (a : ℕ) → a < 2 ^ 64 → canonical a ≡ reachable a
+pub reaches : (a : ℕ) → a < 2 ^ 64 → reachable a ≡ canonical a
 unfolding reachable
 reaches a h = rw (lt-ltb a (2 ^ 64) h)
-
-module _ (a : ℕ) (h : a < 2 ^ 64) where
-  high_bits : bits a 47 63 ≡ a / 2 ^ 47
-  high_bits = omega arith
-
-  pub canonical_low : a / 2 ^ 47 ≡ 0 → true ≡ canonical a
-  canonical_low z = rw (eq-eqb (bits a 47 63) 0 (omega arith))
-
-  pub canonical_high : (a / 2 ^ 47 ≡ 0 → ⊥) → eqb (a / 2 ^ 47) 131071 ≡ canonical a
-  canonical_high n = rw (ne_eqb (bits a 47 63) 0 (omega arith), high_bits)
 
 -- past the top no mode has an address
 pub past_top : (m : PagingMode) (a : ℕ) → 2 ^ 64 ≤ a → reachable_in m a ≡ false

@@ -5,10 +5,11 @@ use Prim.Native.Nat.{ℕ, zero, suc, ◌+◌, ◌-◌, ◌^◌, ◌<◌}
 use native.Mathlib.Omega.{arith}
 use lib.Dec.{eqb, ltb}
 use borrow.Author.Tests.{lt-ltb, eqb-true, eqb-false}
-use Rattle.std.specs.Prelude.{if◌then◌else◌}
+use Rattle.std.specs.Prelude.{if◌then◌else◌, Option, Some, None}
 use Rattle.base.specs.Notation.{bits, bit}
 use Rattle.base.specs.Refusal.{refusal_number}
 use Rattle.base.specs.Codes.{is_code}
+use Rattle.base.specs.declared.Refusal.{Refusal}
 use Rattle.base.specs.declared.Refusal.TheVariants.{FrameTooWide, FileBacked, OtherPagefile, PageInStore, UpperEntryNotValid, StateNotFollowed}
 use Rattle.entry.specs.Addresses.{canonical, reachable, reachable_in}
 use Rattle.entry.specs.Entry.{level_of, valid, too_wide, frame_of, pagefile_page_of, large_of, has_reserved, reserved_of, upper_of, valid_of, transition, transition_of, prototype, extended, in_store, software_of, leaf_of, narrow_leaf_of, leaf_in, prototype_of}
@@ -17,9 +18,6 @@ use Rattle.entry.specs.declared.PagingMode.{PagingMode}
 use Rattle.entry.specs.declared.PagingMode.TheVariants.{FourLevel, Plain, Pae}
 use Rattle.entry.specs.declared.PageSize.{PageSize}
 use Rattle.entry.specs.declared.PageSize.TheVariants.{Page4K, Page2M, Page4M, Page1G}
-use Rattle.entry.specs.declared.ReservedBits.{ReservedBits}
-use Rattle.entry.specs.declared.ReservedBits.TheVariants.{Ignored}
-use Rattle.entry.specs.declared.ReservedBits.TheVariants as reserved_bits
 use Rattle.entry.specs.declared.Level.{Level}
 use Rattle.entry.specs.declared.EntryPlace.{EntryPlace}
 use Rattle.entry.specs.declared.EntryPlace.TheVariants.{InFrame, InPagefile, ZeroPage, Refused}
@@ -80,14 +78,14 @@ large_coded Page4M f = tt
 large_coded Page1G f = tt
 
 -- what a level's reserved bits give is a code
-abbrev pub ReservedCoded : ReservedBits → Type 0
-ReservedCoded Ignored = Unit {0}
-ReservedCoded (reserved_bits.Refused r) = is_code (refusal_number r) ≡ true
+abbrev pub ReservedCoded : Option Refusal → Type 0
+ReservedCoded None = Unit {0}
+ReservedCoded (Some r) = is_code (refusal_number r) ≡ true
 
-reserved_coded : (x : ReservedBits) (b : Bool) (u : Upper) → ReservedCoded x → UpperCoded u → UpperCoded (reserved_of x b u)
-reserved_coded Ignored b u h g = g
-reserved_coded (reserved_bits.Refused r) true u h g = h
-reserved_coded (reserved_bits.Refused r) false u h g = g
+reserved_coded : (x : Option Refusal) (b : Bool) (u : Upper) → ReservedCoded x → UpperCoded u → UpperCoded (reserved_of x b u)
+reserved_coded None b u h g = g
+reserved_coded (Some r) true u h g = h
+reserved_coded (Some r) false u h g = g
 
 row_coded : (l : Level) (e : ℕ) → ReservedCoded l.reserved → UpperCoded (upper_of l e)
 unfolding upper_of is_code

@@ -4,13 +4,11 @@ use mathlib.Core.Bool.{Bool, true, false, not, ◌&&◌}
 use Prim.Native.Nat.{ℕ}
 use native.Mathlib.Omega.{arith}
 use borrow.Author.Tests.{eq-eqb}
-use Rattle.std.specs.Prelude.{if◌then◌else◌}
+use Rattle.std.specs.Prelude.{if◌then◌else◌, Option, Some, None}
 use Rattle.base.specs.Notation.{bits, bit}
+use Rattle.base.specs.declared.Refusal.{Refusal}
 use Rattle.base.specs.declared.Refusal.TheVariants.{UpperEntryNotValid, FrameTooWide}
 use Rattle.entry.specs.Entry.{row, valid, too_wide, frame_of, large_of, has_reserved, reserved_of, upper_of}
-use Rattle.entry.specs.declared.ReservedBits.{ReservedBits}
-use Rattle.entry.specs.declared.ReservedBits.TheVariants.{Ignored}
-use Rattle.entry.specs.declared.ReservedBits.TheVariants as reserved_bits
 use Rattle.entry.specs.declared.Upper.{Upper}
 use Rattle.entry.specs.declared.Upper.TheVariants.{Table, UpperNeedsRegion}
 use Rattle.entry.specs.declared.Upper.TheVariants as upper
@@ -23,16 +21,16 @@ bit_seven l e v w g = rw (eq-eqb (bits e 0 0) 1 v, eq-eqb (bits e 48 51) 0 w, eq
 
 -- the same level, where no reserved bit is looked at
 abbrev pub blank : Level → Level
-blank l = row l.low l.entries l.bytes l.large Ignored l.region
+blank l = row l.low l.entries l.bytes l.large None l.region
 
 -- an entry without bit 7, or without reserved bits, is judged as under a row whose column is blank
 pub without_reserved : (l : Level) (e : ℕ) → (bit e 7 && has_reserved l.large e) ≡ false → upper_of l e ≡ upper_of (blank l) e
 unfolding upper_of
 without_reserved l e h = go (bit e 7) (has_reserved l.large e) h
   where
-    same_column : (x : ReservedBits) (u : Upper) → reserved_of x false u ≡ u
-    same_column Ignored u = refl
-    same_column (reserved_bits.Refused r) u = refl
+    same_column : (x : Option Refusal) (u : Upper) → reserved_of x false u ≡ u
+    same_column None u = refl
+    same_column (Some r) u = refl
 
     judged : Bool → Upper → Upper
     judged b u =

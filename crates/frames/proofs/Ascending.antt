@@ -1,4 +1,5 @@
 -- Runs that ascend and lie apart: the search by halving in their rows finds what the search run by run finds.
+use Rattle.std.specs.Prelude.{Some, None}
 use mathlib.Core.Path.{◌≡◌, refl, sym, ap}
 use mathlib.Core.List.{List, [], ◌∷◌}
 use Prim.Native.Nat.{ℕ, zero, suc, ◌+◌, ◌*◌, ◌-◌, ◌/◌, ◌≤◌, ◌<◌}
@@ -13,7 +14,6 @@ use Rattle.sheet.specs.declared.Run.{Run}
 use Rattle.sheet.proofs.AcceptedCase.{Chain}
 use Rattle.frames.specs.Search.{first_at, end_at, skipped_at, behind, search_in}
 use Rattle.frames.specs.Runs.{page_from}
-use Rattle.frames.specs.declared.ImagePage.TheVariants.{Page, Absent}
 
 -- ---- the rows of the runs
 
@@ -61,10 +61,10 @@ ends_rise (r ∷ rs) base least end (suc i) (suc j) c l h =
 
 -- in run i
 hit : (rs : List Run) (base least end i : ℕ) (f : Frame) → base ≤ end → Chain least end rs → i < length rs
-    → first_at (rows_from base rs) i ≤ f.0 → f.0 < end_at (rows_from base rs) i → page_from base rs f ≡ Page (f.0 - skipped_at (rows_from base rs) i)
+    → first_at (rows_from base rs) i ≤ f.0 → f.0 < end_at (rows_from base rs) i → page_from base rs f ≡ Some (f.0 - skipped_at (rows_from base rs) i)
 hit [] base least end i f b c h x y = absurd (omega arith)
 hit (r ∷ rs) base least end zero f b c h x y =
-    rw (le-leb r.first.0 f.0 x, lt-ltb f.0 (end_of r) y) (ap Page (omega (arith, c.0.apart)))
+    rw (le-leb r.first.0 f.0 x, lt-ltb f.0 (end_of r) y) (ap Some (omega (arith, c.0.apart)))
 hit (r ∷ rs) base least end (suc i) f b c h x y =
     let x' : first_at (rows_from (base + r.pages) rs) i ≤ f.0 = rw next_first at x in
     let y' : f.0 < end_at (rows_from (base + r.pages) rs) i = rw next_end at y in
@@ -74,7 +74,7 @@ hit (r ∷ rs) base least end (suc i) f b c h x y =
 
 -- in none: after the runs before run n, and before the others
 none : (rs : List Run) (base n : ℕ) (f : Frame) → ((j : ℕ) → j < n → end_at (rows_from base rs) j ≤ f.0)
-    → ((j : ℕ) → n ≤ j → j < length rs → f.0 < first_at (rows_from base rs) j) → page_from base rs f ≡ Absent
+    → ((j : ℕ) → n ≤ j → j < length rs → f.0 < first_at (rows_from base rs) j) → page_from base rs f ≡ None
 none [] base n f x y = refl
 none (r ∷ rs) base zero f x y =
     rw (lt-leb r.first.0 f.0 (y 0 (omega arith) (omega arith)))

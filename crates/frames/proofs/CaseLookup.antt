@@ -1,5 +1,5 @@
 -- For an accepted case the code's lookup of a frame is the paper's, and a page that it gives lies in the image.
-use Rattle.std.specs.Prelude.{if◌then◌else◌}
+use Rattle.std.specs.Prelude.{if◌then◌else◌, Option, Some, None}
 use mathlib.Core.Path.{◌≡◌, refl, ap, ◌∙◌}
 use mathlib.Core.List.{List, [], ◌∷◌}
 use mathlib.Core.Bool.{Bool, true, false, ◌&&◌}
@@ -18,8 +18,6 @@ use Rattle.sheet.proofs.AcceptedCase.{AcceptedCase, Chain}
 use Rattle.frames.specs.Runs.{page_from}
 use Rattle.frames.specs.Search.{search_in}
 use Rattle.frames.specs.Rows.{page_in_rows, guarded, rows_page}
-use Rattle.frames.specs.declared.ImagePage.{ImagePage}
-use Rattle.frames.specs.declared.ImagePage.TheVariants.{Page, Absent}
 use Rattle.frames.proofs.Ascending.{halved}
 
 -- a frame of a run lies between the run's first frame and the frame after its last
@@ -43,21 +41,21 @@ rows_page_lem rs base least end f h c =
 
 -- ---- the guard never refuses
 
-abbrev Below : ℕ → ImagePage → Type 0
-Below b Absent = Unit {0}
-Below b (Page p) = p < b
+abbrev Below : ℕ → Option ℕ → Type 0
+Below b None = Unit {0}
+Below b (Some p) = p < b
 
 page_below : (rs : List Run) (base : ℕ) (f : Frame) → Below (base + run_pages rs) (page_from base rs f)
 unfolding has
 page_below [] base f = tt
 page_below (r ∷ rs) base f = go (has r f) refl (page_below rs (base + r.pages) f)
   where
-    weaken : (x : ImagePage) → Below (base + r.pages + run_pages rs) x → Below (base + (r.pages + run_pages rs)) x
-    weaken Absent h = tt
-    weaken (Page p) h = omega (arith, h)
+    weaken : (x : Option ℕ) → Below (base + r.pages + run_pages rs) x → Below (base + (r.pages + run_pages rs)) x
+    weaken None h = tt
+    weaken (Some p) h = omega (arith, h)
 
     go : (b : Bool) → has r f ≡ b → Below (base + r.pages + run_pages rs) (page_from (base + r.pages) rs f)
-        → Below (base + (r.pages + run_pages rs)) (if b then Page (base + (f.0 - r.first.0)) else page_from (base + r.pages) rs f)
+        → Below (base + (r.pages + run_pages rs)) (if b then Some (base + (f.0 - r.first.0)) else page_from (base + r.pages) rs f)
     go true e ih = omega (arith, has_frame r f e)
     go false e ih = weaken (page_from (base + r.pages) rs f) ih
 
@@ -65,9 +63,9 @@ guard_idle : (rs : List Run) (n : ℕ) → n ≡ 4096 * run_pages rs → (f : Fr
 unfolding guarded
 guard_idle rs n e f = go (page_from 0 rs f) (page_below rs 0 f)
   where
-    go : (x : ImagePage) → Below (0 + run_pages rs) x → guarded n x ≡ x
-    go Absent h = refl
-    go (Page p) h = rw (lt-ltb p (n / 4096) (omega (arith, e, h)))
+    go : (x : Option ℕ) → Below (0 + run_pages rs) x → guarded n x ≡ x
+    go None h = refl
+    go (Some p) h = rw (lt-ltb p (n / 4096) (omega (arith, e, h)))
 
 -- ---- one lookup
 
@@ -75,7 +73,7 @@ module _ (s : Sheet) (image pagefile : ℕ) (q : AcceptedCase image pagefile s) 
   pub same_lookup : rows_page (rows_from 0 s.runs) image f ≡ page_from 0 s.runs f
   same_lookup = rw (rows_page_lem s.runs 0 0 0 f (omega arith) q.chain) (guard_idle s.runs image q.image_pages f)
 
-  pub whole_page : (p : ℕ) → page_from 0 s.runs f ≡ Page p → p * 4096 + 4096 ≤ image
+  pub whole_page : (p : ℕ) → page_from 0 s.runs f ≡ Some p → p * 4096 + 4096 ≤ image
   whole_page p e =
       let h : p < 0 + run_pages s.runs = rw e at (page_below s.runs 0 f) in
       omega (arith, q.image_pages)

@@ -1,5 +1,5 @@
 -- The search by halving: what a look leaves, and how many looks it takes.
-use Rattle.std.specs.Prelude.{if◌then◌else◌}
+use Rattle.std.specs.Prelude.{if◌then◌else◌, Option, Some, None}
 use mathlib.Core.Path.{◌≡◌, refl, sym, ap, ◌∙◌}
 use mathlib.Core.List.{List}
 use mathlib.Core.Bool.{Bool, true, false}
@@ -12,8 +12,6 @@ use borrow.Author.Tests.{lt-ltb, le-ltb}
 use Rattle.entry.specs.Pages.{frame}
 use Rattle.entry.specs.declared.Frame.{Frame}
 use Rattle.frames.specs.Search.{first_at, end_at, skipped_at, searched, after, behind, search_in, search_from, search_of, halvings_in, halvings}
-use Rattle.frames.specs.declared.ImagePage.{ImagePage}
-use Rattle.frames.specs.declared.ImagePage.TheVariants.{Page, Absent}
 use Rattle.frames.specs.declared.Search.{Search}
 
 -- ---- a look leaves the rows before the middle one or those behind it
@@ -37,7 +35,7 @@ enough rows f (suc j) (suc k) low (suc n) a b =
 
 pub look : (rows : List ℕ) (f : Frame) (low n : ℕ) → 0 < n → search_from rows low n f ≡ after 1 (
     if ltb f.0 (first_at rows (low + n / 2)) then search_from rows low (n / 2) f else
-    if ltb f.0 (end_at rows (low + n / 2)) then searched (Page (f.0 - skipped_at rows (low + n / 2))) 0 else
+    if ltb f.0 (end_at rows (low + n / 2)) then searched (Some (f.0 - skipped_at rows (low + n / 2))) 0 else
     search_from rows (low + n / 2 + 1) (behind n) f)
 unfolding search_in
 look rows f low zero s = absurd (omega arith)
@@ -73,7 +71,7 @@ halvings_rise (suc k) zero n h = omega arith
 halvings_rise (suc k) (suc m) zero h = absurd (omega arith)
 halvings_rise (suc k) (suc m) (suc n) h = omega (arith, halvings_rise k (suc m / 2) (suc n / 2) (omega arith))
 
-one_more : (b c : Bool) (p : ImagePage) (s t : Search) (m : ℕ) → s.looks ≤ m → t.looks ≤ m → (after 1 (if b then s else if c then searched p 0 else t)).looks ≤ suc m
+one_more : (b c : Bool) (p : Option ℕ) (s t : Search) (m : ℕ) → s.looks ≤ m → t.looks ≤ m → (after 1 (if b then s else if c then searched p 0 else t)).looks ≤ suc m
 one_more true c p s t m h₁ h₂ = omega arith
 one_more false true p s t m h₁ h₂ = omega arith
 one_more false false p s t m h₁ h₂ = omega arith
@@ -87,7 +85,7 @@ few_in rows f (suc k) low (suc n) =
     one_more
     (ltb f.0 (first_at rows middle))
     (ltb f.0 (end_at rows middle))
-    (Page (f.0 - skipped_at rows middle))
+    (Some (f.0 - skipped_at rows middle))
     (search_in k rows low (suc n / 2) f)
     (search_in k rows (middle + 1) (behind (suc n)) f)
     (halvings_in k (suc n / 2))
@@ -112,10 +110,9 @@ one_look = refl
 
 -- ---- the loop: `left` rows from row `first` on are in question, after `looks` looks
 
-pub record Going (rows : List ℕ) (f : Frame) (low left row looks : ℕ) : Type 0 where
+pub record Going (rows : List ℕ) (f : Frame) (low left looks : ℕ) : Type 0 where
   pub first : ℕ
   pub at : low ≡ 3 * first
-  pub middle : row ≡ 3 * (first + left / 2)
   pub inside : first + left ≤ length rows / 3
   pub fits : looks + left ≤ length rows
   pub same : search_of rows f ≡ after looks (search_from rows first left f)
@@ -126,43 +123,44 @@ no_looks s = ap (λ (k : ℕ). searched s.page k) (omega arith)
 looks_more : (looks : ℕ) (s : Search) → after looks (after 1 s) ≡ after (looks + 1) s
 looks_more looks s = ap (λ (k : ℕ). searched s.page k) (omega arith)
 
-pub starts : (rows : List ℕ) (f : Frame) → Going rows f 0 (length rows / 3) (3 * (length rows / 3 / 2)) 0
-starts rows f = record { first = 0; at = omega arith; middle = omega arith; inside = omega arith; fits = omega arith; same = sym (no_looks _) }
+pub starts : (rows : List ℕ) (f : Frame) → Going rows f 0 (length rows / 3) 0
+starts rows f = record { first = 0; at = omega arith; inside = omega arith; fits = omega arith; same = sym (no_looks _) }
 
-module _ {rows : List ℕ} {f : Frame} {low left row looks : ℕ} (q : Going rows f low left row looks) where
-  module _ (some : 0 < left) where
+module _ {rows : List ℕ} {f : Frame} {low left looks : ℕ} (q : Going rows f low left looks) where
+  -- the middle row, where a look is taken
+  module _ (some : 0 < left) (row : ℕ) (e : row ≡ low + 3 * (left / 2)) where
+    middle : row ≡ 3 * (q.first + left / 2)
+    middle = omega (arith, q.at)
+
     looked : (s : Search) → search_from rows q.first left f ≡ after 1 s → search_of rows f ≡ after (looks + 1) s
     looked s h = q.same ∙ ap (after looks) h ∙ looks_more looks s
 
-    pub goes_before : f.0 < get_or rows row 0 → Going rows f low (left / 2) (low + 3 * (left / 2 / 2)) (looks + 1)
+    pub goes_before : f.0 < get_or rows row 0 → Going rows f low (left / 2) (looks + 1)
     goes_before h =
         record {
           first = q.first;
           at = q.at;
-          middle = omega (arith, q.at);
           inside = omega (arith, q.inside);
           fits = omega (arith, q.fits);
-          same = looked _ (rw (look rows f q.first left some, ← q.middle, lt-ltb _ _ h));
+          same = looked _ (rw (look rows f q.first left some, ← middle, lt-ltb _ _ h));
         }
 
-    pub goes_behind : get_or rows row 0 ≤ f.0 → get_or rows (row + 1) 0 ≤ f.0
-        → Going rows f (row + 3) ((left - 1) / 2) (row + 3 + 3 * ((left - 1) / 2 / 2)) (looks + 1)
+    pub goes_behind : get_or rows row 0 ≤ f.0 → get_or rows (row + 1) 0 ≤ f.0 → Going rows f (row + 3) ((left - 1) / 2) (looks + 1)
     goes_behind h₁ h₂ =
         let same_left : (left - 1) / 2 ≡ behind left = omega arith in
         record {
           first = q.first + left / 2 + 1;
-          at = omega (arith, q.middle);
-          middle = omega (arith, q.middle);
+          at = omega (arith, middle);
           inside = omega (arith, q.inside);
           fits = omega (arith, q.fits);
-          same = rw same_left (looked _ (rw (look rows f q.first left some, ← q.middle, le-ltb _ _ h₁, le-ltb _ _ h₂)));
+          same = rw same_left (looked _ (rw (look rows f q.first left some, ← middle, le-ltb _ _ h₁, le-ltb _ _ h₂)));
         }
 
-    pub found : get_or rows row 0 ≤ f.0 → f.0 < get_or rows (row + 1) 0 → search_of rows f ≡ searched (Page (f.0 - get_or rows (row + 2) 0)) (looks + 1)
+    pub found : get_or rows row 0 ≤ f.0 → f.0 < get_or rows (row + 1) 0 → search_of rows f ≡ searched (Some (f.0 - get_or rows (row + 2) 0)) (looks + 1)
     found h₁ h₂ =
-        looked (searched (Page (f.0 - get_or rows (row + 2) 0)) 0) (rw (look rows f q.first left some, ← q.middle, le-ltb _ _ h₁, lt-ltb _ _ h₂)) ∙ simp unary_clauses
+        looked (searched (Some (f.0 - get_or rows (row + 2) 0)) 0) (rw (look rows f q.first left some, ← middle, le-ltb _ _ h₁, lt-ltb _ _ h₂)) ∙ simp unary_clauses
 
-  pub not_found : left ≡ 0 → search_of rows f ≡ searched Absent looks
+  pub not_found : left ≡ 0 → search_of rows f ≡ searched None looks
   unfolding search_in
   not_found h = q.same ∙ simp (h, unary_clauses)
 

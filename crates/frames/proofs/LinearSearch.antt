@@ -1,5 +1,5 @@
 -- A search run by run finds the same page and breaks the bound: 32 runs of one frame, one frame apart, the last one asked.
-use Rattle.std.specs.Prelude.{if◌then◌else◌}
+use Rattle.std.specs.Prelude.{if◌then◌else◌, Some, None}
 use mathlib.Core.Path.{◌≡◌, refl}
 use mathlib.Core.List.{List, [], ◌∷◌}
 use mathlib.Core.Bool.{◌&&◌}
@@ -12,14 +12,13 @@ use Rattle.entry.specs.declared.Frame.{Frame}
 use Rattle.sheet.specs.Call.{rows_from}
 use Rattle.sheet.specs.declared.Run.{Run}
 use Rattle.frames.specs.Search.{searched, after, search_in, search_of, halvings_in, halvings}
-use Rattle.frames.specs.declared.ImagePage.TheVariants.{Page, Absent}
 use Rattle.frames.specs.declared.Search.{Search}
 
 pub linear : List ℕ → Frame → Search
-linear [] f = searched Absent 0
-linear (first ∷ []) f = searched Absent 0
-linear (first ∷ end ∷ []) f = searched Absent 0
-linear (first ∷ end ∷ skipped ∷ rows) f = after 1 (if leb first f.0 && ltb f.0 end then searched (Page (f.0 - skipped)) 0 else linear rows f)
+linear [] f = searched None 0
+linear (first ∷ []) f = searched None 0
+linear (first ∷ end ∷ []) f = searched None 0
+linear (first ∷ end ∷ skipped ∷ rows) f = after 1 (if leb first f.0 && ltb f.0 end then searched (Some (f.0 - skipped)) 0 else linear rows f)
 
 pub runs_of_one : ℕ → ℕ → List Run
 runs_of_one zero first = []
@@ -31,7 +30,7 @@ rows = rows_from 0 (runs_of_one 32 0)
 pub last : Frame
 last = frame 62
 
-pub linear_finds : linear rows last ≡ searched (Page 31) 32
+pub linear_finds : linear rows last ≡ searched (Some 31) 32
 unfolding rows runs_of_one last linear
 linear_finds = refl
 
@@ -39,11 +38,11 @@ pub linear_breaks : halvings (length rows / 3) < (linear rows last).looks
 unfolding rows runs_of_one last linear halvings_in
 linear_breaks = omega arith
 
-pub halving_finds : search_of rows last ≡ searched (Page 31) 5
+pub halving_finds : search_of rows last ≡ searched (Some 31) 5
 unfolding rows runs_of_one last search_in
 halving_finds = refl
 
 -- the first run takes as many looks as the bound allows
-pub halving_most : search_of rows (frame 0) ≡ searched (Page 0) 6
+pub halving_most : search_of rows (frame 0) ≡ searched (Some 0) 6
 unfolding rows runs_of_one search_in
 halving_most = refl

@@ -1,8 +1,6 @@
 -- 02 order 2: the search of a frame in the rows by halving, and how many runs it looks at.
-use Rattle.std.specs.Prelude.{ℕ, zero, suc, ◌+◌, ◌-◌, ◌*◌, ◌/◌, List, ltb, length, get_or, if◌then◌else◌}
+use Rattle.std.specs.Prelude.{ℕ, zero, suc, ◌+◌, ◌-◌, ◌*◌, ◌/◌, List, ltb, length, get_or, if◌then◌else◌, Option, Some, None}
 use Rattle.entry.specs.declared.Frame.{Frame}
-use Rattle.frames.specs.declared.ImagePage.{ImagePage}
-use Rattle.frames.specs.declared.ImagePage.TheVariants.{Page, Absent}
 use Rattle.frames.specs.declared.Search.{Search}
 
 -- row i, three numbers: the first frame of a run, the frame after its last, and how many frames below it are in no run
@@ -16,7 +14,7 @@ abbrev pub skipped_at : List ℕ → ℕ → ℕ
 skipped_at rows i = get_or rows (3 * i + 2) 0
 
 -- page p, after n looks
-abbrev pub searched : ImagePage → ℕ → Search
+abbrev pub searched : Option ℕ → ℕ → Search
 searched p n = record { page = p; looks = n }
 
 -- with n looks before it
@@ -29,13 +27,13 @@ behind n = n - n / 2 - 1
 
 -- with n rows in question, row `low` the first, and at most k looks: a look at the one in the middle leaves those before it or those behind it
 unfoldable pub search_in : ℕ → List ℕ → ℕ → ℕ → Frame → Search
-search_in zero rows low n f = searched Absent 0
-search_in (suc k) rows low zero f = searched Absent 0
+search_in zero rows low n f = searched None 0
+search_in (suc k) rows low zero f = searched None 0
 search_in (suc k) rows low (suc n) f =
     let middle = low + suc n / 2 in
     after 1 (
     if ltb f.0 (first_at rows middle) then search_in k rows low (suc n / 2) f else
-    if ltb f.0 (end_at rows middle) then searched (Page (f.0 - skipped_at rows middle)) 0 else
+    if ltb f.0 (end_at rows middle) then searched (Some (f.0 - skipped_at rows middle)) 0 else
     search_in k rows (middle + 1) (behind (suc n)) f)
 
 -- in the n rows from row `low` on: n looks are enough

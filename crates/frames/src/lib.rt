@@ -5,70 +5,48 @@ ghost use Rattle.std.specs.Prelude.{◌≡◌, ◌-◌, ◌/◌, ◌≤◌, leng
 ghost use Rattle.frames.specs.Search.{search_of, halvings};
 ghost use Rattle.frames.specs.Rows.{rows_page};
 
+use base::PAGE_BYTES;
 use entry::Frame;
 
-// The image page of a frame.
-#[derive(Clone, Copy)]
-pub enum ImagePage {
-    Page(u64),
-    Absent,
-}
-
-// What a search for a frame found, and how many runs it looked at.
+// What a search for a frame found, the image page of it, and how many runs it looked at.
 #[derive(Clone, Copy)]
 pub struct Search {
-    pub page: ImagePage,
+    pub page: Option<u64>,
     pub looks: u64,
 }
 
-// The image page of a frame, by halving: `left` rows are in question, the first starts at `low`, the middle one at `row`.
+// The image page of a frame, by halving: `left` rows are in question, the first starts at `low`.
+// A loop that counts its looks, and no search of the library, since the contract bounds them by `halvings`.
 pub fn find_page(rows: &[u64], f: Frame) -> Search
     ensures { (result ≡ search_of rows.now f) × (result.looks ≤ halvings (length rows.now / 3)) }
 {
     let n = f.number();
     let mut low = 0;
     let mut left = rows.len() / 3;
-    let mut row = 3 * (left / 2);
     let mut looks = 0;
     while 0 < left {
+        let row = low + 3 * (left / 2);
         looks += 1;
         if n < rows[row] {
             left = left / 2;
-            row = low + 3 * (left / 2);
+        } else if n < rows[row + 1] {
+            let page = Some(n.saturating_sub(rows[row + 2]));
+            return Search { page, looks };
         } else {
-            if n < rows[row + 1] {
-                let skipped = rows[row + 2];
-                let page = ImagePage::Page(saturating_sub(n, skipped));
-                return Search { page, looks };
-            }
             low = row + 3;
             left = (left - 1) / 2;
-            row = low + 3 * (left / 2);
         }
     }
-    let page = ImagePage::Absent;
-    Search { page, looks }
-}
-
-fn saturating_sub(n: u64, m: u64) -> u64
-    ensures { result ≡ n - m }
-{
-    if m <= n { n - m } else { 0 }
+    Search { page: None, looks }
 }
 
 // The image page of a frame, where an image of `size` bytes has it.
-pub fn locate(rows: &[u64], size: u64, f: Frame) -> ImagePage
+#[tactic(auto, unfolding(crate::specs::Rows::guarded, crate::specs::Rows::page_in_rows))]
+pub fn locate(rows: &[u64], size: u64, f: Frame) -> Option<u64>
     ensures { result ≡ rows_page rows.now size f }
 {
-    let search = find_page(rows, f);
-    let found = search.page;
-    match found {
-        ImagePage::Absent => ImagePage::Absent,
-        ImagePage::Page(p) => {
-            if p < size / 4096 {
-                return ImagePage::Page(p);
-            }
-            ImagePage::Absent
-        }
+    match find_page(rows, f).page {
+        Some(p) if p < size / PAGE_BYTES => Some(p),
+        _ => None,
     }
 }

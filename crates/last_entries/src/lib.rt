@@ -2,30 +2,32 @@
 #![tactic(auto)]
 
 ghost use Rattle.std.specs.Prelude.{◌≡◌, ◌<◌, ◌^◌};
-ghost use Rattle.entry.specs.Entry.{valid_of, transition, software_of, extended, leaf_of, narrow_leaf_of, prototype_of};
+ghost use Rattle.entry.specs.Entry.{valid_of, transition, software_of, extended, leaf_in, prototype_of};
 
 use base::Refusal;
-use entry::{BIT_32, BIT_47, BIT_48, EntryPlace, Frame, Leaf, PageSize, PagefilePage};
+use entry::{EntryPlace, Frame, Leaf, PageSize, PagefilePage, PagingMode, bit, bits};
 
-// A software entry with bit 22 set names a page of the compressed store (02, order 5).
-const BIT_22: u64 = 0x400000;
 // Bits 16-63 of a prototype entry that stands for a region record.
 const REGION_VALUE: u64 = 0xFFFFFFFF0000;
 // What extends bit 47, if it is set, to 64 bits.
 const HIGH_BITS: u64 = 0xFFFF000000000000;
 
-// A last-level entry.
-pub fn last_entry(e: u64) -> Leaf
-    ensures { result ≡ leaf_of e }
+// A last-level entry of a paging mode: the 32-bit profiles follow two states, four levels all.
+#[tactic(auto, unfolding(entry::specs::Entry::leaf_in, entry::specs::Entry::leaf_of, entry::specs::Entry::narrow_leaf_of))]
+pub fn last_entry(mode: PagingMode, e: u64) -> Leaf
+    ensures { result ≡ leaf_in mode e }
 {
-    if e % 2 == 1 {
+    if bit(e, 0) {
         return Leaf::Settled(valid_entry(e));
     }
     if in_transition(e) {
         return Leaf::Settled(EntryPlace::InFrame(Frame::of_entry(e), PageSize::Page4K));
     }
-    if e / 1024 % 2 == 1 {
-        let high = e / 65536;
+    if !matches!(mode, PagingMode::FourLevel) {
+        return Leaf::Settled(EntryPlace::Refused(Refusal::StateNotFollowed));
+    }
+    if bit(e, 10) {
+        let high = bits(e, 16, 63);
         if high == REGION_VALUE {
             return Leaf::NeedsRegion;
         }
@@ -37,31 +39,15 @@ pub fn last_entry(e: u64) -> Leaf
     Leaf::Settled(software_entry(e))
 }
 
-// A last-level entry of the 32-bit profiles.
-pub fn narrow_entry(e: u64) -> Leaf
-    ensures { result ≡ narrow_leaf_of e }
-{
-    if e % 2 == 1 {
-        if e / BIT_48 % 16 != 0 {
-            return Leaf::Settled(EntryPlace::Refused(Refusal::FrameTooWide));
-        }
-        return Leaf::Settled(EntryPlace::InFrame(Frame::of_entry(e), PageSize::Page4K));
-    }
-    let moving = in_transition(e);
-    if moving {
-        return Leaf::Settled(EntryPlace::InFrame(Frame::of_entry(e), PageSize::Page4K));
-    }
-    Leaf::Settled(EntryPlace::Refused(Refusal::StateNotFollowed))
-}
-
 // An entry found at a prototype address.
+#[tactic(auto, unfolding(entry::specs::Entry::prototype_of))]
 pub fn prototype_entry(e: u64) -> EntryPlace
     ensures { result ≡ prototype_of e }
 {
-    if e % 2 == 1 {
+    if bit(e, 0) {
         return valid_entry(e);
     }
-    if e / 1024 % 2 == 1 {
+    if bit(e, 10) {
         return EntryPlace::Refused(Refusal::FileBacked);
     }
     if in_transition(e) {
@@ -73,7 +59,7 @@ pub fn prototype_entry(e: u64) -> EntryPlace
 fn valid_entry(e: u64) -> EntryPlace
     ensures { result ≡ valid_of e }
 {
-    if e / BIT_48 % 16 != 0 {
+    if bits(e, 48, 51) != 0 {
         return EntryPlace::Refused(Refusal::FrameTooWide);
     }
     EntryPlace::InFrame(Frame::of_entry(e), PageSize::Page4K)
@@ -83,22 +69,20 @@ fn valid_entry(e: u64) -> EntryPlace
 fn in_transition(e: u64) -> bool
     ensures { result ≡ transition e }
 {
-    if e / 2048 % 2 == 1 {
-        return e / 1024 % 2 != 1;
-    }
-    false
+    bit(e, 11) && !bit(e, 10)
 }
 
 fn software_entry(e: u64) -> EntryPlace
     ensures { result ≡ software_of e }
 {
-    if e / BIT_32 == 0 {
+    if bits(e, 32, 63) == 0 {
         return EntryPlace::ZeroPage;
     }
-    if e / BIT_22 % 2 == 1 {
+    // A page of the compressed store.
+    if bit(e, 22) {
         return EntryPlace::Refused(Refusal::PageInStore);
     }
-    if e / 2 % 16 != 0 {
+    if bits(e, 1, 4) != 0 {
         return EntryPlace::Refused(Refusal::OtherPagefile);
     }
     EntryPlace::InPagefile(PagefilePage::of_entry(e))
@@ -109,8 +93,9 @@ fn extend(high: u64) -> u64
     requires { high < 2 ^ 48 }
     ensures { result ≡ extended high }
 {
-    if high / BIT_47 % 2 == 1 {
-        return high + HIGH_BITS;
+    if bit(high, 47) {
+        high + HIGH_BITS
+    } else {
+        high
     }
-    high
 }

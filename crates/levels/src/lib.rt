@@ -2,52 +2,40 @@
 #![tactic(auto)]
 
 ghost use Rattle.std.specs.Prelude.{◌≡◌};
-ghost use Rattle.entry.specs.declared.PagingMode.TheVariants.{FourLevel, Plain, Pae};
-ghost use Rattle.entry.specs.Entry.{row, level_of};
+ghost use Rattle.entry.specs.Entry.{row, level_of, levels_below};
 
 use base::Refusal;
-use entry::{Level, PageSize, ReservedBits};
+use entry::{Level, PageSize, PagingMode};
 
-// The level of a plain table with `below` levels below it.
-pub fn plain_level_at(below: u64) -> Level
-    ensures { result ≡ level_of Plain below }
+// The level of a table with `below` levels below it.
+#[tactic(auto, unfolding(entry::specs::Entry::level_of))]
+pub fn level_at(mode: PagingMode, below: u64) -> Level
+    ensures { result ≡ level_of mode below }
 {
-    if below == 0 {
-        return level_row(12, 1024, 4, PageSize::Page4K, ReservedBits::Ignored, false);
+    let reserved = Some(Refusal::ReservedBitSet);
+    let too_wide = Some(Refusal::FrameTooWide);
+    match (mode, below) {
+        (PagingMode::FourLevel, 0) => level_row(12, 512, 8, PageSize::Page4K, None, false),
+        (PagingMode::FourLevel, 1) => level_row(21, 512, 8, PageSize::Page2M, reserved, true),
+        (PagingMode::FourLevel, 2) => level_row(30, 512, 8, PageSize::Page1G, reserved, false),
+        (PagingMode::FourLevel, _) => level_row(39, 512, 8, PageSize::Page4K, reserved, false),
+        (PagingMode::Plain, 0) => level_row(12, 1024, 4, PageSize::Page4K, None, false),
+        (PagingMode::Plain, _) => level_row(22, 1024, 4, PageSize::Page4M, too_wide, false),
+        (PagingMode::Pae(_), 0) => level_row(12, 512, 8, PageSize::Page4K, None, false),
+        (PagingMode::Pae(_), 1) => level_row(21, 512, 8, PageSize::Page2M, reserved, false),
+        (PagingMode::Pae(_), _) => level_row(30, 4, 8, PageSize::Page4K, reserved, false),
     }
-    let reserved = ReservedBits::Refused(Refusal::FrameTooWide);
-    level_row(22, 1024, 4, PageSize::Page4M, reserved, false)
 }
 
-// The same of PAE, at any place.
-pub fn pae_level_at(below: u64) -> Level
-    ensures { result ≡ level_of (Pae 0) below }
+// How many levels lie below the top table.
+pub fn levels_below(mode: PagingMode) -> u64
+    ensures { result ≡ levels_below mode }
 {
-    if below == 0 {
-        return level_row(12, 512, 8, PageSize::Page4K, ReservedBits::Ignored, false);
+    match mode {
+        PagingMode::FourLevel => 3,
+        PagingMode::Plain => 1,
+        PagingMode::Pae(_) => 2,
     }
-    let reserved = ReservedBits::Refused(Refusal::ReservedBitSet);
-    if below == 1 {
-        return level_row(21, 512, 8, PageSize::Page2M, reserved, false);
-    }
-    level_row(30, 4, 8, PageSize::Page4K, reserved, false)
-}
-
-// The same of four levels.
-pub fn four_level_at(below: u64) -> Level
-    ensures { result ≡ level_of FourLevel below }
-{
-    if below == 0 {
-        return level_row(12, 512, 8, PageSize::Page4K, ReservedBits::Ignored, false);
-    }
-    let reserved = ReservedBits::Refused(Refusal::ReservedBitSet);
-    if below == 1 {
-        return level_row(21, 512, 8, PageSize::Page2M, reserved, true);
-    }
-    if below == 2 {
-        return level_row(30, 512, 8, PageSize::Page1G, reserved, false);
-    }
-    level_row(39, 512, 8, PageSize::Page4K, reserved, false)
 }
 
 fn level_row(
@@ -55,7 +43,7 @@ fn level_row(
     entries: u64,
     bytes: u64,
     large: PageSize,
-    reserved: ReservedBits,
+    reserved: Option<Refusal>,
     region: bool,
 ) -> Level
     ensures { result ≡ row low entries bytes large reserved region }

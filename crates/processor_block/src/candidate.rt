@@ -3,7 +3,7 @@ ghost use Rattle.std.specs.Prelude.{◌≡◌, ◌+◌, ◌%◌, ◌≤◌, leng
 ghost use Rattle.entry.specs.Entry.{frame_of};
 ghost use Rattle.processor_block.specs.Block.{self_word, prcb_word, directory_word, words_fit};
 
-use entry::{BIT_48, Frame};
+use entry::{Frame, bits};
 
 // Self and CurrentPrcb exceed this (01, after document 003).
 const KERNEL_FLOOR: u64 = 0xFFFF000000000000;
@@ -28,7 +28,7 @@ impl Candidate<'_> {
         KERNEL_FLOOR < own
             && KERNEL_FLOOR < prcb
             && prcb - 0x180 == own
-            && self.directory_word() / BIT_48 % 16 == 0
+            && bits(self.directory_word(), 48, 51) == 0
     }
 
     // Self.

@@ -1,5 +1,5 @@
 -- The number of every answer for a reachable address is a code, and a file offset is below 2^48, so that the answer can stand in a map.
-use Rattle.std.specs.Prelude.{if◌then◌else◌}
+use Rattle.std.specs.Prelude.{if◌then◌else◌, Option, Some, None}
 use mathlib.Core.Path.{◌≡◌, refl}
 use mathlib.Core.Bool.{Bool, true, false}
 use Prim.Native.Nat.{ℕ, zero, suc, ◌+◌, ◌*◌, ◌%◌, ◌^◌, ◌≤◌, ◌<◌}
@@ -50,8 +50,6 @@ use Rattle.walk.specs.Walk.{
   resolve_of,
   stop,
 }
-use Rattle.frames.specs.declared.ImagePage.{ImagePage}
-use Rattle.frames.specs.declared.ImagePage.TheVariants.{Page, Absent}
 use Rattle.walk.specs.declared.Place.{Place}
 use Rattle.walk.specs.declared.Place.TheVariants.{Image, Pagefile, Zeros, Refused}
 use Rattle.walk.proofs.Ground.{Sound}
@@ -63,10 +61,10 @@ PlaceCoded Zeros = Unit {0}
 PlaceCoded (Refused r) = is_code (refusal_number r) ≡ true
 
 module _ (w : World) (q : Sound w) (small : length w.image ≤ 2 ^ 48) where
-  page_coded : (a : ℕ) (f : Frame) (x : ImagePage) → w.page f ≡ x → PlaceCoded (in_page a x)
+  page_coded : (a : ℕ) (f : Frame) (x : Option ℕ) → w.page f ≡ x → PlaceCoded (in_page a x)
   unfolding is_code
-  page_coded a f Absent e = refl
-  page_coded a f (Page p) e = let h : p * 4096 + 4096 ≤ length w.image = q.whole f p e in omega arith
+  page_coded a f None e = refl
+  page_coded a f (Some p) e = let h : p * 4096 + 4096 ≤ length w.image = q.whole f p e in omega arith
 
   settle_coded : (a : ℕ) (r : EntryPlace) → EntryPlaceCoded r → PlaceCoded (settled w a r)
   unfolding settle_of is_code
@@ -83,10 +81,10 @@ module _ (w : World) (q : Sound w) (small : length w.image ≤ 2 ^ 48) where
   abbrev m : PagingMode
   m = w.space.mode
 
-  entry_coded : (l : Level) (o a : ℕ) (next : ℕ → Trail) (x : ImagePage) → ((e : ℕ) → LeafCoded m (next e).leaf) → LeafCoded m (entry_of w.image l o a next x).leaf
+  entry_coded : (l : Level) (o a : ℕ) (next : ℕ → Trail) (x : Option ℕ) → ((e : ℕ) → LeafCoded m (next e).leaf) → LeafCoded m (entry_of w.image l o a next x).leaf
   unfolding is_code
-  entry_coded l o a next Absent h = refl
-  entry_coded l o a next (Page p) h = h (little_at l.bytes w.image (entry_offset l p o a))
+  entry_coded l o a next None h = refl
+  entry_coded l o a next (Some p) h = h (little_at l.bytes w.image (entry_offset l p o a))
 
   step_coded : (u : Upper) (next : Frame → Trail) → UpperCoded u → ((f : Frame) → LeafCoded m (next f).leaf) → LeafCoded m (upper_step next u).leaf
   step_coded (Table f) next t h = h f
@@ -94,7 +92,7 @@ module _ (w : World) (q : Sound w) (small : length w.image ≤ 2 ^ 48) where
   step_coded (upper.Refused r) next t h = t
   step_coded UpperNeedsRegion next t h = tt
 
-  descend_coded : (n o : ℕ) (t : ImagePage) (a : ℕ) → LeafCoded m (descend_of m n w.page w.image o t a).leaf
+  descend_coded : (n o : ℕ) (t : Option ℕ) (a : ℕ) → LeafCoded m (descend_of m n w.page w.image o t a).leaf
   unfolding descend_of
   descend_coded zero o t a = entry_coded (level_of m 0) o a (λ e. halt (leaf_in m e)) t (λ e. leaf_in_coded m e)
   descend_coded (suc n) o t a =

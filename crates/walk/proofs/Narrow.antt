@@ -5,7 +5,7 @@ use mathlib.Core.Bool.{Bool, true, false, not}
 use Prim.Native.Nat.{ℕ, zero, suc, ◌≤◌}
 use native.Mathlib.Omega.{arith}
 use lib.ListN.{length, length-append}
-use Rattle.std.specs.Prelude.{if◌then◌else◌}
+use Rattle.std.specs.Prelude.{if◌then◌else◌, Option, Some, None}
 use Rattle.base.specs.Notation.{bit}
 use Rattle.base.specs.declared.Refusal.{Refusal}
 use Rattle.base.specs.declared.Refusal.TheVariants.{NotCanonical, UpperEntryNotValid, FrameInNoRun, FrameTooWide, ReservedBitSet, StateNotFollowed}
@@ -17,8 +17,6 @@ use Rattle.entry.specs.declared.PagingMode.TheVariants.{FourLevel, Plain, Pae}
 use Rattle.entry.specs.declared.PageSize.{PageSize}
 use Rattle.entry.specs.declared.PageSize.TheVariants.{Page4K, Page2M, Page4M, Page1G}
 use Rattle.entry.specs.declared.Level.{Level}
-use Rattle.entry.specs.declared.ReservedBits.TheVariants.{Ignored}
-use Rattle.entry.specs.declared.ReservedBits.TheVariants as reserved_bits
 use Rattle.entry.specs.declared.EntryPlace.{EntryPlace}
 use Rattle.entry.specs.declared.EntryPlace.TheVariants.{InFrame, InPagefile, ZeroPage}
 use Rattle.entry.specs.declared.EntryPlace.TheVariants as entry_place
@@ -27,8 +25,6 @@ use Rattle.entry.specs.declared.Upper.TheVariants.{Table, LargePage, UpperNeedsR
 use Rattle.entry.specs.declared.Upper.TheVariants as upper
 use Rattle.entry.specs.declared.Leaf.{Leaf}
 use Rattle.entry.specs.declared.Leaf.TheVariants.{Settled, Prototype, NeedsRegion}
-use Rattle.frames.specs.declared.ImagePage.{ImagePage}
-use Rattle.frames.specs.declared.ImagePage.TheVariants.{Page, Absent}
 use Rattle.words.specs.Words.{little_at}
 use Rattle.walk.specs.Walk.{World, Trail, Next, no_more, deeper, in_page, frame_in, settle_of, settled, entry_offset, entry_of, upper_step, descend_of, descended, halt, leaf_step, body_of, resolve_of, noting, stop}
 use Rattle.walk.proofs.Descending.{Narrow}
@@ -103,10 +99,10 @@ pub record NarrowLevel (m : PagingMode) (l : Level) : Type 0 where
   pub no_region : l.region ≡ false
   pub reserved : (u : Upper) (b : Bool) → NarrowUpper m u → NarrowUpper m (reserved_of l.reserved b u)
 
-ignored_narrow : (m : PagingMode) (u : Upper) (b : Bool) → NarrowUpper m u → NarrowUpper m (reserved_of Ignored b u)
+ignored_narrow : (m : PagingMode) (u : Upper) (b : Bool) → NarrowUpper m u → NarrowUpper m (reserved_of None b u)
 ignored_narrow m u b h = h
 
-refused_narrow : (m : PagingMode) (r : Refusal) → NarrowRefusal m r → (u : Upper) (b : Bool) → NarrowUpper m u → NarrowUpper m (reserved_of (reserved_bits.Refused r) b u)
+refused_narrow : (m : PagingMode) (r : Refusal) → NarrowRefusal m r → (u : Upper) (b : Bool) → NarrowUpper m u → NarrowUpper m (reserved_of (Some r) b u)
 refused_narrow m r q u true h = q
 refused_narrow m r q u false h = h
 
@@ -142,9 +138,9 @@ upper_narrow m l e q = rw q.no_region (go (not (valid e)) (too_wide e) (bit e 7)
 
 -- ---- the descent
 
-entry_narrow : (m : PagingMode) (image : List ℕ) (l : Level) (o a : ℕ) (next : ℕ → Trail) (t : ImagePage) → ((e : ℕ) → NarrowLeaf m (next e).leaf) → NarrowLeaf m (entry_of image l o a next t).leaf
-entry_narrow m image l o a next Absent h = in_no_run
-entry_narrow m image l o a next (Page p) h = h (little_at l.bytes image (entry_offset l p o a))
+entry_narrow : (m : PagingMode) (image : List ℕ) (l : Level) (o a : ℕ) (next : ℕ → Trail) (t : Option ℕ) → ((e : ℕ) → NarrowLeaf m (next e).leaf) → NarrowLeaf m (entry_of image l o a next t).leaf
+entry_narrow m image l o a next None h = in_no_run
+entry_narrow m image l o a next (Some p) h = h (little_at l.bytes image (entry_offset l p o a))
 
 step_narrow : (m : PagingMode) (u : Upper) (next : Frame → Trail) → NarrowUpper m u → ((f : Frame) → NarrowLeaf m (next f).leaf) → NarrowLeaf m (upper_step next u).leaf
 step_narrow m (Table f) next t h = h f
@@ -152,7 +148,7 @@ step_narrow m (LargePage f s) next t h = tt
 step_narrow m (upper.Refused r) next t h = t
 step_narrow m UpperNeedsRegion next t h = absurd t
 
-descend_narrow_lem : (m : PagingMode) → Narrow m → (n : ℕ) (page : Frame → ImagePage) (image : List ℕ) (o : ℕ) (t : ImagePage) (a : ℕ) → NarrowLeaf m (descend_of m n page image o t a).leaf
+descend_narrow_lem : (m : PagingMode) → Narrow m → (n : ℕ) (page : Frame → Option ℕ) (image : List ℕ) (o : ℕ) (t : Option ℕ) (a : ℕ) → NarrowLeaf m (descend_of m n page image o t a).leaf
 unfolding descend_of
 descend_narrow_lem m h zero page image o t a = entry_narrow m image (level_of m 0) o a (λ e. halt (leaf_in m e)) t (λ e. leaf_narrow m e h)
 descend_narrow_lem m h (suc n) page image o t a =
@@ -165,9 +161,9 @@ module _ (w : World) (h : Narrow w.space.mode) where
   abbrev m : PagingMode
   m = w.space.mode
 
-  page_narrow : (a : ℕ) (x : ImagePage) → NarrowPlace m (in_page a x)
-  page_narrow a Absent = refused in_no_run
-  page_narrow a (Page p) = in_image _
+  page_narrow : (a : ℕ) (x : Option ℕ) → NarrowPlace m (in_page a x)
+  page_narrow a None = refused in_no_run
+  page_narrow a (Some p) = in_image _
 
   settle_narrow_lem : (a : ℕ) (r : EntryPlace) → NarrowEntry m r → NarrowPlace m (settled w a r)
   unfolding settle_of

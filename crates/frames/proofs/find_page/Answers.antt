@@ -1,23 +1,21 @@
 -- What is still in question gives what the whole gives, after the looks so far.
 use native.Mathlib.Omega.{arith}
-use Rattle.frames.proofs.Halving.{starts, goes_before, goes_behind, found, not_found, answered}
+use Rattle.std.proofs.Common.{refl}
+use Rattle.frames.proofs.Halving.{goes_before, goes_behind, found, not_found, answered}
 use Rattle.frames.proofs.find_page.Goals as goal
 
-pub loop-left-init : goal.loop-left-init
-loop-left-init c = starts _ _
-
 pub loop-left-preserved-then-n-rows : goal.loop-left-preserved-then-n-rows
-loop-left-preserved-then-n-rows c = goes_before c.loop-left.invariant c.loop-left-test.true c.if-n-rows.true
+loop-left-preserved-then-n-rows c = goes_before c.loop-left.invariant c.loop-left-test.true _ refl c.if-n-rows.true
 
 pub loop-left-preserved : goal.loop-left-preserved
-loop-left-preserved c = goes_behind c.loop-left.invariant c.loop-left-test.true (omega (arith, c.if-n-rows.false)) (omega (arith, c.if-n-rows-2.false))
+loop-left-preserved c = goes_behind c.loop-left.invariant c.loop-left-test.true _ refl (omega arith) (omega arith)
 
 pub returns-then-n-rows-2 : goal.returns-then-n-rows-2
 returns-then-n-rows-2 c =
     let args = c.args in
     rw c.saturating_sub.ensures
     (answered args.rows.now _ args.f _ c.number-n.ensures
-    (found c.loop-left.invariant c.loop-left-test.true (omega (arith, c.if-n-rows.false)) c.if-n-rows-2.true))
+    (found c.loop-left.invariant c.loop-left-test.true _ refl (omega arith) c.if-n-rows-2.true))
 
 pub returns : goal.returns
 returns c =
