@@ -6,15 +6,12 @@ ghost use Rattle.std.specs.Option.{option_map};
 ghost use Rattle.std.specs.Result.{result_map_both};
 ghost use Rattle.sheet.specs.Sheet.{end_of};
 ghost use Rattle.sheet_limits.specs.Write.{runs_of, touches};
-ghost use Rattle.sheet_limits.specs.Inner.{Given};
 ghost use Rattle.joined_runs.specs.Inner.{given_run, counted_runs, run_after, joined_run};
 
 use base::Refusal;
 use entry::Frame;
-use sheet::Run;
-
-// 02 order 4: a run ends at or below page 2^36.
-const TOP_PAGE: u64 = 0x1000000000;
+use sheet::{Run, TOP_PAGE};
+use sheet_limits::GivenRuns;
 
 // 02 order 4: a joined run of this many pages has no written length.
 const WHOLE: u64 = 0x1000000000;
@@ -27,13 +24,12 @@ pub struct RunBelowTop {
 }
 
 // 13, or how many runs there are once those that touch are joined.
-pub fn count_runs(starts: &[u64], lengths: &[u64]) -> Result<usize, Refusal>
-    requires { Given starts.now lengths.now }
-    ensures { result ≡ counted_runs (runs_of starts.now lengths.now) }
+pub fn count_runs(runs: GivenRuns) -> Result<usize, Refusal>
+    ensures { result ≡ counted_runs (runs_of runs.entry.starts.now runs.entry.lengths.now) }
 {
-    let mut last = RunBelowTop::after(0, starts[0], lengths[0])?;
+    let mut last = RunBelowTop::after(0, runs.starts[0], runs.lengths[0])?;
     let mut count = 1;
-    for (start, pages) in starts[1..].iter().zip(&lengths[1..]) {
+    for (start, pages) in runs.starts[1..].iter().zip(&runs.lengths[1..]) {
         let run = RunBelowTop::after(last.end(), *start, *pages)?;
         match last.joined_with(run) {
             Some(both) => last = both,

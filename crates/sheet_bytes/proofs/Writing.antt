@@ -17,6 +17,7 @@ use Rattle.sheet.specs.declared.Header.{Header}
 use Rattle.sheet.specs.declared.Run.{Run}
 use Rattle.sheet.proofs.OneRun.{Follows}
 use Rattle.sheet_limits.specs.Write.{runs_of, in_order, touches, as_one, joined_before, joined_runs, edition_of, mode_bytes, header_bytes, run_bytes, runs_bytes, sheet_bytes}
+use Rattle.sheet_limits.specs.Inner.{Given}
 use Rattle.joined_runs.specs.Inner.{given_run, joined_run}
 use Rattle.joined_runs.proofs.Joining.{touching, apart, one_end, in_order_lem, joined_most}
 use Rattle.joined_runs.proofs.GivenRuns.{First, runs_length, runs_over}
@@ -158,5 +159,5 @@ pub wrote_sheet : (h : Header) (runs : List Run) {o o₁ o₂ : List ℕ} {at r 
 unfolding sheet_bytes
 wrote_sheet h runs e p q = wrote_then (rw e at p) q
 
-pub count_most : {h : Header} {ss ls : List ℕ} → Ready h ss ls → h.count ≤ 1000
-count_most {h} {ss} {ls} q = omega (arith, q.count, joined_most (runs_of ss ls), runs_length ss ls q.given.alike, q.given.most)
+pub count_most : {h : Header} {ss ls : List ℕ} → Ready h ss ls → Given ss ls → h.count ≤ 1000
+count_most {h} {ss} {ls} q g = omega (arith, q.count, joined_most (runs_of ss ls), runs_length ss ls g.alike, g.most)

@@ -6,7 +6,6 @@ use Rattle.sheet.specs.Inner.{PlaceInPage}
 use Rattle.sheet.specs.declared.Header.{Header}
 use Rattle.sheet.specs.declared.Run.{Run}
 use Rattle.sheet_limits.specs.Write.{runs_of, in_order, touches, as_one, joined_runs, run_bytes}
-use Rattle.sheet_limits.specs.Inner.{Given}
 use Rattle.sheet_bytes.specs.declared.RunWriter.{RunWriter}
 
 abbrev pub written_sheet : Header → List ℕ → List ℕ → Sheet
@@ -16,7 +15,6 @@ written_sheet h starts lengths = record { space = h.space; runs = joined_runs (r
 pub record Ready (h : Header) (starts lengths : List ℕ) : Type 0 where
   pub directory : h.space.directory.0 < 2 ^ 36
   pub place : PlaceInPage h.space.mode
-  pub given : Given starts lengths
   pub order : in_order 0 (runs_of starts lengths) ≡ true
   pub count : h.count ≡ length (joined_runs (runs_of starts lengths))
 

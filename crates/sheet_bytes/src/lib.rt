@@ -5,17 +5,15 @@ ghost use Rattle.std.specs.Prelude.{◌≡◌, true, ◌≤◌, ◌<◌, ◌^◌
 ghost use Rattle.base.specs.Overlay.{Wrote};
 ghost use Rattle.sheet.specs.Inner.{PlaceInPage};
 ghost use Rattle.sheet_limits.specs.Write.{runs_of, in_order, joined_runs, edition_of, mode_bytes, header_bytes, run_bytes, runs_bytes, sheet_bytes};
-ghost use Rattle.sheet_limits.specs.Inner.{Given};
 ghost use Rattle.sheet_bytes.specs.Inner.{written_sheet, Ready, Room, RunTaken};
 
 use entry::PagingMode;
 use joined_runs::RunBelowTop;
-use sheet::{Header, ModeNumbers, Run};
-
-// 02 order 7: the edition with a paging mode.
-const SECOND_EDITION: u64 = 2;
+use sheet::{Header, ModeNumbers, Run, SECOND_EDITION};
+use sheet_limits::GivenRuns;
 
 // The place after the runs that are written, the page at which they end, and the run after them, which the next may touch.
+// No slice of the rest stands for the buffer and the place: what falls past the buffer's end is counted.
 #[derive(Clone, Copy)]
 struct RunWriter {
     at: usize,
@@ -24,12 +22,12 @@ struct RunWriter {
 }
 
 // Writes the whole sheet, and answers its length; bytes that fall past the buffer's end are counted and not written.
-pub fn write_fields(header: Header, starts: &[u64], lengths: &[u64], out: &mut [u8]) -> usize
-    requires { Ready header starts.now lengths.now }
-    ensures { Wrote out.old 0 (sheet_bytes (written_sheet header starts.now lengths.now)) result out.new }
+pub fn write_fields(header: Header, runs: GivenRuns, out: &mut [u8]) -> usize
+    requires { Ready header runs.starts.now runs.lengths.now }
+    ensures { Wrote out.old 0 (sheet_bytes (written_sheet header runs.entry.starts.now runs.entry.lengths.now)) result out.new }
 {
     let at = write_header(out, header);
-    write_runs(out, at, starts, lengths)
+    write_runs(out, at, runs)
 }
 
 // Writes the fields before the runs, and answers the place after them.
@@ -67,16 +65,16 @@ fn write_mode(out: &mut [u8], at: usize, mode: PagingMode) -> usize
 }
 
 // Writes the joined runs from a place on, and answers the place after them.
-fn write_runs(out: &mut [u8], from: usize, starts: &[u64], lengths: &[u64]) -> usize
-    requires { (from < 2 ^ 61) × (Given starts.now lengths.now × (in_order 0 (runs_of starts.now lengths.now) ≡ true)) }
-    ensures { Wrote out.old from (runs_bytes 0 (joined_runs (runs_of starts.now lengths.now))) result out.new }
+fn write_runs(out: &mut [u8], from: usize, runs: GivenRuns) -> usize
+    requires { (from < 2 ^ 61) × (in_order 0 (runs_of runs.starts.now runs.lengths.now) ≡ true) }
+    ensures { Wrote out.old from (runs_bytes 0 (joined_runs (runs_of runs.entry.starts.now runs.entry.lengths.now))) result out.new }
 {
     let mut writer = RunWriter {
         at: from,
         end: 0,
-        last: RunBelowTop::given(starts[0], lengths[0]),
+        last: RunBelowTop::given(runs.starts[0], runs.lengths[0]),
     };
-    for (start, pages) in starts[1..].iter().zip(&lengths[1..]) {
+    for (start, pages) in runs.starts[1..].iter().zip(&runs.lengths[1..]) {
         writer = writer.push(out, RunBelowTop::given(*start, *pages));
     }
     writer.finish(out)

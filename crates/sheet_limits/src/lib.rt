@@ -3,17 +3,23 @@
 
 ghost use Rattle.std.specs.Prelude.{◌≡◌};
 ghost use Rattle.sheet_limits.specs.Write.{all_below, in_limits};
+ghost use Rattle.sheet_limits.specs.Inner.{Given};
 
-use sheet::ModeNumbers;
+use sheet::{MOST_RUNS, ModeNumbers};
 
 // 02 order 4: each number is below 2^36.
 const NUMBER_LIMIT: u64 = 0x1000000000;
 
-// 02 order 4: as many runs as these can be given.
-const MOST_RUNS: usize = 1000;
-
 // 02 order 7: the last mode number.
 const LAST_MODE: u64 = 2;
+
+// Runs that are given within the limits: a list of their starts and one of their lengths, in pages, as C lends them.
+#[derive(Clone, Copy)]
+pub struct GivenRuns<'a> {
+    pub starts: &'a [u64],
+    pub lengths: &'a [u64],
+    pub ghost given: { Given starts.now lengths.now },
+}
 
 // The lengths of the lists come first, so that long ones are not looked through.
 #[tactic(auto, unfolding(crate::specs::Write::in_limits))]
@@ -21,7 +27,7 @@ pub fn is_in_limits(directory: u64, mode: u64, place: u64, starts: &[u64], lengt
     ensures { result ≡ in_limits directory mode place starts.now lengths.now }
 {
     starts.len() == lengths.len()
-        && (1..=MOST_RUNS).contains(&starts.len())
+        && (1..=MOST_RUNS).contains(&(starts.len() as u64))
         && directory < NUMBER_LIMIT
         && mode <= LAST_MODE
         && ModeNumbers { mode, place }.is_place()

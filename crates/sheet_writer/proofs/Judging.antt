@@ -53,7 +53,6 @@ module _ (directory mode place : ℕ) (starts lengths : List ℕ) where
           record {
             directory = p.0;
             place = in_page_lem mode place (both_true (leb mode 2) (is_place mode place) (in_mode directory mode place starts lengths h)).1;
-            given = p.1;
             order = (both_true (in_order 0 (runs_of starts lengths)) _ sound.0).0;
             count = sound.1;
           }

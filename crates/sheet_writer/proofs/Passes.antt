@@ -10,6 +10,7 @@ use Rattle.base.specs.Overlay.{Wrote}
 use Rattle.sheet.specs.Sheet.{Sheet}
 use Rattle.sheet.specs.declared.Header.{Header}
 use Rattle.sheet_limits.specs.Write.{runs_of, joined_runs, sheet_bytes}
+use Rattle.sheet_limits.specs.Inner.{Given}
 use Rattle.sheet_bytes.specs.Inner.{written_sheet, Ready}
 use Rattle.sheet_bytes.proofs.Lengths.{sheet_length}
 use Rattle.sheet_bytes.proofs.Writing.{count_most}
@@ -17,9 +18,9 @@ use Rattle.sheet_writer.specs.Call.{sheet_outcome}
 use Rattle.sheet_writer.specs.Inner.{answered}
 
 -- no sheet is longer: a buffer of so many bytes needs no measuring
-pub sheet_most : {h : Header} {ss ls : List ℕ} → Ready h ss ls → length (sheet_bytes (written_sheet h ss ls)) ≤ 12011
-sheet_most {h} {ss} {ls} q =
-    let few : length (joined_runs (runs_of ss ls)) ≤ 1000 = omega (arith, q.count, count_most q) in
+pub sheet_most : {h : Header} {ss ls : List ℕ} → Ready h ss ls → Given ss ls → length (sheet_bytes (written_sheet h ss ls)) ≤ 12011
+sheet_most {h} {ss} {ls} q g =
+    let few : length (joined_runs (runs_of ss ls)) ≤ 1000 = omega (arith, q.count, count_most q g) in
     omega (arith, sheet_length (written_sheet h ss ls) q.place few)
 
 pub full_sheet : (s : Sheet) {old new : List ℕ} {r : ℕ} → length (sheet_bytes s) ≤ length old → Wrote old 0 (sheet_bytes s) r new → answered (Ok r) new ≡ sheet_outcome s old

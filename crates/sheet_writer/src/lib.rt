@@ -9,6 +9,7 @@ ghost use Rattle.sheet_writer.specs.Inner.{answered};
 use base::{Refusal, Written};
 use entry::Frame;
 use sheet::{AddressSpace, Header, ModeNumbers};
+use sheet_limits::GivenRuns;
 
 // No sheet is longer: 11 bytes before the runs, then at most 12 a run.
 const SHEET_BYTES: usize = 12011;
@@ -48,29 +49,25 @@ fn write_given(
     if !sheet_limits::is_in_limits(directory, mode, place, starts, lengths) {
         return Err(Refusal::OutOfLimits);
     }
-    let count = joined_runs::count_runs(starts, lengths)?;
+    let runs = GivenRuns { starts, lengths };
+    let count = joined_runs::count_runs(runs)?;
     let space = AddressSpace {
         directory: Frame::numbered(directory),
         mode: ModeNumbers { mode, place }.into(),
     };
-    write_judged(Header { space, count }, starts, lengths, out)
+    write_judged(Header { space, count }, runs, out)
 }
 
 // The same of numbers and runs that were judged: a measuring pass, where a sheet can be longer than the buffer, then a writing one.
-fn write_judged(
-    header: Header,
-    starts: &[u64],
-    lengths: &[u64],
-    out: &mut [u8],
-) -> Result<usize, Refusal>
-    requires { Ready header starts.now lengths.now }
-    ensures { answered result out.new ≡ sheet_outcome (written_sheet header starts.now lengths.now) out.old }
+fn write_judged(header: Header, runs: GivenRuns, out: &mut [u8]) -> Result<usize, Refusal>
+    requires { Ready header runs.starts.now runs.lengths.now }
+    ensures { answered result out.new ≡ sheet_outcome (written_sheet header runs.entry.starts.now runs.entry.lengths.now) out.old }
 {
     if out.len() < SHEET_BYTES {
-        let length = sheet_bytes::write_fields(header, starts, lengths, &mut []);
+        let length = sheet_bytes::write_fields(header, runs, &mut []);
         if out.len() < length {
             return Err(Refusal::SheetBufferShort);
         }
     }
-    Ok(sheet_bytes::write_fields(header, starts, lengths, out))
+    Ok(sheet_bytes::write_fields(header, runs, out))
 }

@@ -8,8 +8,8 @@ use Rattle.joined_runs.proofs.count_runs.Goals as goal
 
 pub loop-start-init : goal.loop-start-init
 loop-start-init c =
-    let starts = c.args.starts.now in
-    let lengths = c.args.lengths.now in
+    let starts = c.args.runs.starts.now in
+    let lengths = c.args.runs.lengths.now in
     let follows = can_follow 0 (given_run (get_or starts 0 0) (get_or lengths 0 0)) c.in_ok-last.last.run c.in_ok-last.ensures in
     rw (
       follows.1,
@@ -17,7 +17,7 @@ loop-start-init c =
       c.zip-start-items.ensures.first,
       c.iter.ensures.rest,
       c.zip-start-items.ensures.second.0,
-    ) ((tt, tt), (tt, counting_first (first starts lengths c.requires) follows.0))
+    ) ((tt, tt), (tt, counting_first (first starts lengths c.args.runs.given) follows.0))
 
 pub after-requires-in-loop-start : goal.after-requires-in-loop-start
 after-requires-in-loop-start c = let e = c.in-Some.ensures.steps in next_below (rw (e.0, e.1) at c.loop-start.invariant.1.1)

@@ -5,18 +5,18 @@ use Rattle.sheet_bytes.proofs.Writing.{first_top, writing_first, writing_room, n
 use Rattle.sheet_bytes.proofs.write_runs.Goals as goal
 
 pub given-requires : goal.given-requires
-given-requires c = first_top (first c.args.starts.now c.args.lengths.now c.requires.1.0) c.requires.1.1
+given-requires c = first_top (first c.args.runs.starts.now c.args.runs.lengths.now c.args.runs.given) c.requires.1
 
 pub loop-start-init : goal.loop-start-init
 loop-start-init c =
-    let starts = c.args.starts.now in
-    let lengths = c.args.lengths.now in
+    let starts = c.args.runs.starts.now in
+    let lengths = c.args.runs.lengths.now in
     rw (
       c.into_iter-start-iterator.ensures.into_iter_gives,
       c.zip-start-items.ensures.first,
       c.iter.ensures.rest,
       c.zip-start-items.ensures.second.0,
-    ) ((tt, tt), (tt, writing_first (first starts lengths c.requires.1.0) c.requires.1.1 _ _ _ refl refl c.given.ensures))
+    ) ((tt, tt), (tt, writing_first (first starts lengths c.args.runs.given) c.requires.1 _ _ _ refl refl c.given.ensures))
 
 pub given-requires-in-loop-start : goal.given-requires-in-loop-start
 given-requires-in-loop-start c = let e = c.in-Some.ensures.steps in next_top (rw (e.0, e.1) at c.loop-start.invariant.1.1)

@@ -9,4 +9,4 @@ abbrev pub invariant-loop-start : goal.invariant-loop-start
 invariant-loop-start l =
     (goal.iterator-loop-start).can_next l.start-iterator
     × ((goal.iterator-loop-start).is_finite l.start-iterator
-    × Writing (runs_of l.starts l.lengths) l.from l.initial.out l.out l.writer (iter_rest (zip_first l.start-iterator)) (iter_rest (zip_second l.start-iterator)))
+    × Writing (runs_of l.runs.starts.now l.runs.lengths.now) l.from l.initial.out l.out l.writer (iter_rest (zip_first l.start-iterator)) (iter_rest (zip_second l.start-iterator)))

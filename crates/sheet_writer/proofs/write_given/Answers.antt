@@ -8,8 +8,8 @@ use Rattle.sheet_writer.proofs.write_given.Goals as goal
 pub returns-then-not-is_in_limits : goal.returns-then-not-is_in_limits
 returns-then-not-is_in_limits c = out_of_limits _ _ _ _ _ (sym c.is_in_limits.ensures ∙ c.if-not-is_in_limits.true) _
 
-pub count_runs-requires : goal.count_runs-requires
-count_runs-requires c = (limits _ _ _ _ _ (sym c.is_in_limits.ensures ∙ c.if-not-is_in_limits.false)).1
+pub invariant_of-runs : goal.invariant_of-runs
+invariant_of-runs c = record { given = (limits _ _ _ _ _ (sym c.is_in_limits.ensures ∙ c.if-not-is_in_limits.false)).1 }
 
 pub returns-in_err-count : goal.returns-in_err-count
 returns-in_err-count c =

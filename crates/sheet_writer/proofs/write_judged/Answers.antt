@@ -8,6 +8,6 @@ use Rattle.sheet_writer.proofs.write_judged.Goals as goal
 
 pub returns : goal.returns
 returns c =
-    let sheet = written_sheet c.args.header c.args.starts.now c.args.lengths.now in
-    let fits : length (sheet_bytes sheet) ≤ length c.args.out.now = elim c.if-out-lt-SHEET_BYTES.branch [ then-out-lt-SHEET_BYTES+else-out-length w ↦ omega (arith, w.write_fields-length.ensures.place, w.if-out-length.false) | else-out-lt-SHEET_BYTES w ↦ omega (arith, sheet_most c.requires) ] in
+    let sheet = written_sheet c.args.header c.args.runs.starts.now c.args.runs.lengths.now in
+    let fits : length (sheet_bytes sheet) ≤ length c.args.out.now = elim c.if-out-lt-SHEET_BYTES.branch [ then-out-lt-SHEET_BYTES+else-out-length w ↦ omega (arith, w.write_fields-length.ensures.place, w.if-out-length.false) | else-out-lt-SHEET_BYTES w ↦ omega (arith, sheet_most c.requires c.args.runs.given) ] in
     full_sheet sheet fits c.write_fields.ensures
