@@ -175,7 +175,7 @@ fn answer_next(
     Ok(true)
 }
 
-// Fills the buffer; answers false where the input ends before.
+// Fills the buffer; answers false where the input ends before. It stands in `check_sheets` too: neither program is built on the other.
 fn read_whole(input: &mut impl Read, bytes: &mut [u8]) -> io::Result<bool> {
     match input.read_exact(bytes) {
         Ok(()) => Ok(true),

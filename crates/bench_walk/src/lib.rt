@@ -27,7 +27,7 @@ pub extern "C" fn bench_walk_pages(
     let case = open_case(rows, image, pagefile, directory, mode, place);
     let mut sum = 0u64;
     let mut a = start;
-    // The address wraps at the top, so it is stepped beside the count.
+    // The address is stepped beside the count, as `walked_sum` steps it.
     for i in 0..pages {
         let found = case.resolve(a);
         sum = sum.wrapping_add(image_offset(found));

@@ -63,7 +63,7 @@ fn check_one(
     Ok(true)
 }
 
-// Fills the buffer; answers false where the input ends before.
+// Fills the buffer; answers false where the input ends before. It stands in `address_lines` too: neither program is built on the other.
 fn read_whole(input: &mut impl Read, bytes: &mut [u8]) -> io::Result<bool> {
     match input.read_exact(bytes) {
         Ok(()) => Ok(true),

@@ -103,7 +103,7 @@ fn read_link(case: &OpenCase, link: Link) -> Result<u64, Refusal>
     link_at(case, case.resolve(link.address).place)
 }
 
-// The word at a place, 0 in a page of zeros.
+// The word at a place, 0 in a page of zeros. A refusal goes on here; `word_at_place` of the walk is asked of no refused place.
 fn link_at(case: &OpenCase, place: Place) -> Result<u64, Refusal>
     requires { WordInside case.now.image.now case.now.pagefile.now place }
     ensures { result ≡ link_at case.now.image.now case.now.pagefile.now place }

@@ -4,7 +4,7 @@
 use base::Refusal;
 use entry::Leaf;
 
-// Where an address leads.
+// Where an address leads: four outcomes of one rank, as `number_of` (specs/Walk.antt) numbers them, and no `Result` of three.
 #[derive(Clone, Copy)]
 pub enum Place {
     Image(u64),
