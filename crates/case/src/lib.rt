@@ -108,7 +108,7 @@ fn run_over<T, R, F: FnOnce(OpenCase, &mut [T]) -> Result<R, Fault>>(
 }
 
 // Checks the sheet and the two lengths, and lays the rows of the runs over the lent numbers: the address space, and how many numbers the rows take.
-fn open_case(
+pub fn open_case(
     sheet: &[u8],
     image: &[u8],
     pagefile: &[u8],
