@@ -1,6 +1,6 @@
 -- What an opened case is: the world of the accepted case, over rows that are enough.
 use Rattle.std.specs.Prelude.{Result, Ok}
-use mathlib.Core.Path.{◌≡◌, refl, sym, ap, ◌∙◌}
+use mathlib.Core.Path.{◌≡◌, refl, sym, ap, subst, ◌∙◌}
 use mathlib.Core.List.{List}
 use mathlib.Core.Bool.{true}
 use Prim.Native.Nat.{ℕ, ◌+◌, ◌*◌, ◌≤◌}
@@ -19,10 +19,12 @@ use Rattle.sheet.proofs.ManyRuns.{rows_length}
 use Rattle.sheet.proofs.AcceptedCase.{AcceptedCase, accepted_laws}
 use Rattle.sheet.proofs.Short.{few_runs_lem}
 use Rattle.walk.specs.Walk.{world_of, resolve_of, Grounded}
-use Rattle.walk.specs.Rows.{rows_world}
+use Rattle.walk.specs.Rows.{rows_world, four_levels}
+use Rattle.entry.specs.declared.PagingMode.{PagingMode}
+use Rattle.entry.specs.declared.PagingMode.TheVariants.{FourLevel, Plain, Pae}
 use Rattle.walk.proofs.Ground.{Sound, grounded}
 use Rattle.walk.proofs.CaseWorld.{same_world, sound_case}
-use Rattle.case.specs.Case.{Case, check_of, by_check}
+use Rattle.case.specs.Case.{Case, check_of, by_check, served_in, served}
 use Rattle.case.specs.Answer.{GroundedAt}
 use Rattle.case.specs.Inner.{numbers_of, row_numbers, opened_of, Opens}
 
@@ -103,3 +105,46 @@ case_grounded c a = go (check_of c) refl
     go (refused f) e = tt
     go (got s at) e =
         grounded (world_of s c.image c.pagefile) (sound_case s c.image c.pagefile (accepted_laws c.sheet (length c.image) (length c.pagefile) s at e)) a
+
+-- ---- a call that serves four levels alone
+
+-- an accepted case of four levels
+pub record AcceptedFour (c : Case) (space : AddressSpace) (n : ℕ) (rows : List ℕ) : Type 0 where
+  pub case : Accepted c space n rows
+  pub check : served (check_of c) ≡ got case.sheet case.at
+  pub four : space ≡ four_levels space.directory
+
+served_four : (m : PagingMode) (s : Sheet) (at : ℕ) (p : AddressSpace × ℕ) → s.space.mode ≡ m → opened_of (served_in m (got s at)) ≡ Ok p → p.0.mode ≡ FourLevel
+served_four FourLevel s at p e k =
+    let both : (s.space, 3 * length s.runs) ≡ p = cc in
+    ap (λ (x : AddressSpace × ℕ). x.0.mode) (sym both) ∙ e
+served_four Plain s at p e k = absurd (let z : ◌≡◌ {A = ℕ} 0 1 = cc in omega arith)
+served_four (Pae place) s at p e k = absurd (let z : ◌≡◌ {A = ℕ} 0 1 = cc in omega arith)
+
+pub accepted_four : (c : Case) (old : List ℕ) (v : Result (AddressSpace × ℕ) Fault) (new : List ℕ) (p : AddressSpace × ℕ) → row_numbers c ≤ length old → Opens (served (check_of c)) old v new → v ≡ Ok p → AcceptedFour c p.0 p.1 new
+accepted_four c old v new p h q f =
+    let all = accepted_case c old v new p h (record { same = own.0; rows = own.1 }) f in
+    record {
+      case = all;
+      check = same_check (check_of c) ready ∙ all.check;
+      four = ap (λ (m : PagingMode). record { directory = p.0.directory; mode = m }) (mode (check_of c) ready);
+    }
+  where
+    whole : (m : PagingMode) (s : Sheet) (at : ℕ) → opened_of (served_in m (got s at)) ≡ Ok p → served_in m (got s at) ≡ got s at
+    whole FourLevel s at k = refl
+    whole Plain s at k = absurd (let z : ◌≡◌ {A = ℕ} 0 1 = cc in omega arith)
+    whole (Pae place) s at k = absurd (let z : ◌≡◌ {A = ℕ} 0 1 = cc in omega arith)
+
+    ready : opened_of (served (check_of c)) ≡ Ok p
+    ready = sym q.same ∙ f
+
+    same_check : (d : Read Sheet) → opened_of (served d) ≡ Ok p → served d ≡ d
+    same_check (got s at) k = whole s.space.mode s at k
+    same_check (refused x) k = refl
+
+    mode : (d : Read Sheet) → opened_of (served d) ≡ Ok p → p.0.mode ≡ FourLevel
+    mode (got s at) k = served_four s.space.mode s at p refl k
+    mode (refused x) k = absurd (let z : ◌≡◌ {A = ℕ} 0 1 = cc in omega arith)
+
+    own : (v ≡ opened_of (check_of c)) × RowsLaid old (check_of c) new
+    own = let e = same_check (check_of c) ready in (q.same ∙ ap opened_of e, subst (λ (d : Read Sheet). RowsLaid old d new) e q.rows)
