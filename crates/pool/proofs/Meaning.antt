@@ -117,11 +117,17 @@ module _ (image old : List ℕ) where
     unfolding headers_call
     short_buffer h = rw (eq-eqb (length image % 4096) 0 pages, lt-ltb (length old) (length headers) (leb-false (length headers) (length old) h))
 
-    pub headers_written : leb (length headers) (length old) ≡ true → (r : ℕ) (new : List ℕ) → Wrote old 0 headers r new → answered (Ok r) new ≡ headers_call image old
+    pub headers_answered : leb (length headers) (length old) ≡ true → (r : ℕ) (new : List ℕ) → Wrote old 0 headers r new → answered (Ok r) new ≡ headers_call image old
     unfolding headers_call
-    headers_written h r new w =
+    headers_answered h r new w =
         let count : r ≡ length headers = omega (arith, w.place) in
         rw (eq-eqb (length image % 4096) 0 pages, le-ltb (length old) (length headers) (leb-true (length headers) (length old) h), count, w.bytes)
+
+    -- what was found to fit and was written is the whole promise
+    pub headers_written : (b : Bool) (lent : List ℕ) → (b ≡ leb (length headers) (length old)) × (lent ≡ old) → b ≡ true → (r : ℕ) (new : List ℕ) → Wrote lent 0 headers r new → PoolAnswer image old (record { number = 0; length = r }) new
+    headers_written b lent c h r new w =
+        let same : Wrote old 0 headers r new = rw c.1 at w in
+        promise (record { number = 0; length = r }) new (headers_answered (sym c.0 ∙ h) r new same)
 
 -- as many places as words are enough
 pub room_for_words : (image : List ℕ) (places : ℕ) → length image % 4096 ≡ 0 → length image / 8 ≤ places → leb (length (headers_of image)) places ≡ true

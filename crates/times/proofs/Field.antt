@@ -21,6 +21,8 @@ use Rattle.case.specs.Case.{Case, check_of, by_check}
 use Rattle.reading.specs.Bytes.{Bytes, bytes, byte_then, bytes_of}
 use Rattle.reading.specs.Bytes as reading
 use Rattle.case.proofs.Opening.{case_grounded}
+use Rattle.reading.specs.Call.{ReadOutcome, fault_bytes, read_all, read_of, ReadAnswer}
+use Rattle.reading.specs.declared.BytesRead.{BytesRead}
 use Rattle.reading.specs.Inner.{read_from, read_into, read_case}
 use Rattle.times.specs.Time.{Ticks, ticks, refused, judged, ticks_in, ticks_at}
 use Rattle.times.specs.Call.{no_time, time_read, time_told, TimeAnswer}
@@ -115,8 +117,8 @@ placeless (Ok z) = Ok z
 placeless (Err f) = Err f.refusal
 
 module _ (c : Case) (a : ℕ) (old : List ℕ) (r : Result Bool Fault) (new : List ℕ) (room : length old ≡ 8) (q : (r, new) ≡ read_case c a 8 old) where
-  pub refused_field : (x : Refusal) → placeless r ≡ Err x → time_told (ticks_at c a) ≡ Err x
-  refused_field x = go r refl
+  pub field_at_fault : (x : Refusal) → placeless r ≡ Err x → time_told (ticks_at c a) ≡ Err x
+  field_at_fault x = go r refl
     where
       go : (d : Result Bool Fault) → r ≡ d → placeless d ≡ Err x → time_told (ticks_at c a) ≡ Err x
       go (Ok z) e h = absurd (let x : ◌≡◌ {A = ℕ} 0 1 = cc in omega arith)
@@ -146,3 +148,23 @@ pub time_answer : (c : Case) (a : ℕ) (r : Result Time Refusal) → r ≡ time_
 time_answer c a r e =
     let same : answer r ≡ time_read (ticks_at c a) = ap answer e ∙ told_read (ticks_at c a) in
     record { same = same; exact = rw same (exact_answer c a); grounded = λ k. case_grounded c (a + k) }
+
+-- the same of a read by the public call: a refused one has the refusal's number, and a time of none
+module _ (c : Case) (a : ℕ) (old : List ℕ) (v : BytesRead) (new : List ℕ) (room : length old ≡ 8) (q : ReadAnswer c a 8 old v new) where
+  abbrev outcome : ReadOutcome
+  outcome = record { answer = v; buffer = new }
+
+  pub refused_field : (v.number ≡ 0 → ⊥) → (r : TimeRead) → r ≡ no_time v.number → TimeAnswer c a r
+  unfolding read_of ticks_at
+  refused_field h r e =
+      let same : r ≡ time_read (ticks_at c a) = e ∙ go (check_of c) (rw (le-ltb (length old) 8 (omega arith)) at q.same) in
+      record { same = same; exact = rw same (exact_answer c a); grounded = q.grounded }
+    where
+      field : (b : Bytes) → outcome ≡ read_all old 8 b → no_time v.number ≡ time_read (ticks_in b)
+      field (bytes xs z) f = absurd (h (ap (λ (o : ReadOutcome). o.answer.number) f))
+      field (reading.refused x) f = ap (λ (o : ReadOutcome). no_time o.answer.number) f
+
+      go : (d : reader.Read Sheet) → outcome ≡ by_check c (λ f. record { answer = fault_bytes f; buffer = old }) (λ w. read_all old 8 (bytes_of 8 w a)) d
+          → no_time v.number ≡ time_read (by_check c (λ f. refused f.refusal) (λ w. ticks_in (bytes_of 8 w a)) d)
+      go (reader.got s at) f = field (bytes_of 8 (world_of s c.image c.pagefile) a) f
+      go (reader.refused x) f = ap (λ (o : ReadOutcome). no_time o.answer.number) f
