@@ -53,7 +53,7 @@ pub extern "C" fn bench_walk_one(
     image_offset(case.resolve(address))
 }
 
-// The lent rows and files with the address space of a directory page, a mode's number and the directory's place.
+// The rows and files that C lends, with the address space of a directory page, a mode's number and the directory's place.
 fn open_case<'a>(
     rows: &'a [u64],
     image: &'a [u8],

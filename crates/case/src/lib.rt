@@ -13,7 +13,7 @@ use resolution::OpenCase;
 use sheet::AddressSpace;
 use walk::{Place, Resolved};
 
-// 01's number, the addressed byte's offset in its file, and the entries read.
+// 01's number, the addressed byte's offset in its file, and the entries read: numbers, since C reads them.
 #[repr(C)]
 #[derive(Clone, Copy)]
 pub struct Answer {

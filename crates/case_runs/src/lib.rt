@@ -8,7 +8,7 @@ ghost use Rattle.case_runs.specs.Inner.{RowsInOrder, runs_of_rows};
 use base::{Fault, PAGE_BYTES, Refusal, Written};
 use sheet::ModeNumbers;
 
-// 01's number, or 53 for a buffer too short; the directory page, the paging mode's two numbers, and how many runs there are.
+// 01's number, or 53 for a buffer too short; the directory page, the paging mode's two numbers, and how many runs there are: numbers, since C reads them.
 #[repr(C)]
 #[derive(Clone, Copy)]
 pub struct CaseRead {

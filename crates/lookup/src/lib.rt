@@ -12,6 +12,7 @@ use base::{Fault, PAGE_BYTES, Refusal};
 use entry::VirtualPage;
 use map_format::{Extent, Header, MappedPage};
 
+// 01's number and the offset in the file: numbers, since C reads them.
 #[repr(C)]
 #[derive(Clone, Copy)]
 pub struct Found {

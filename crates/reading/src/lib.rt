@@ -13,7 +13,7 @@ use base::{Fault, Refusal, TOP_ADDRESS};
 use resolution::OpenCase;
 use walk::Place;
 
-// 01's number, how many bytes were read, and 1 if one of them came from a page of zeros.
+// 01's number, how many bytes were read, and 1 if one of them came from a page of zeros: numbers, since C reads them.
 #[repr(C)]
 #[derive(Clone, Copy)]
 pub struct BytesRead {

@@ -21,7 +21,7 @@ pub struct GivenRuns<'a> {
     pub ghost given: { Given starts.now lengths.now },
 }
 
-// The lengths of the lists come first, so that long ones are not looked through.
+// What C lends, whatever it is. The lengths of the lists come first, so that long ones are not looked through.
 #[tactic(auto, unfolding(crate::specs::Write::in_limits))]
 pub fn is_in_limits(directory: u64, mode: u64, place: u64, starts: &[u64], lengths: &[u64]) -> bool
     ensures { result ≡ in_limits directory mode place starts.now lengths.now }

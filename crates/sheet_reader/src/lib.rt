@@ -9,7 +9,7 @@ ghost use Rattle.sheet.specs.Inner.{FieldsLaid};
 use base::{Fault, PAGE_BYTES, Refusal};
 use sheet::Header;
 
-// The check of a sheet and the two lengths.
+// The check of a sheet and the two lengths, which `glint_case` lends in place of files.
 pub fn check_sheet(sheet: &[u8], image: u64, pagefile: u64) -> Result<Header, Fault>
     ensures { result ≡ sheet_read (sheet_of sheet.now image pagefile) }
 {
@@ -17,7 +17,8 @@ pub fn check_sheet(sheet: &[u8], image: u64, pagefile: u64) -> Result<Header, Fa
 }
 
 // The same, with the rows of the runs laid over the lent numbers, three a run: its first frame, the frame after its last,
-// and how many frames below it are in no run, so that a frame less these is its image page.
+// and how many frames below it are in no run, so that a frame less these is its image page. Numbers, since `glint_case` lends
+// them in its own buffer.
 pub fn read_sheet(
     sheet: &[u8],
     image: u64,

@@ -15,7 +15,7 @@ use sheet_limits::GivenRuns;
 const SHEET_BYTES: usize = 12011;
 
 // The sheet of a directory page, a paging mode's number and the directory's place, and of runs with these starts and lengths,
-// in pages, into the lent buffer.
+// in pages, into the lent buffer: any numbers and two lists of any lengths, as C lends them.
 pub fn write_sheet(
     directory: u64,
     mode: u64,

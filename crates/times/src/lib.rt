@@ -22,7 +22,7 @@ pub struct Time {
     pub ticks: f64,
 }
 
-// The number, 0 if done, and the time, 0 and 0 if refused.
+// The number, 0 if done, and the time, 0 and 0 if refused, as C reads them.
 #[repr(C)]
 #[derive(Clone, Copy)]
 pub struct TimeRead {
