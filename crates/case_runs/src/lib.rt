@@ -88,7 +88,7 @@ fn rows_to_runs(rows: &mut [u64])
     requires { RowsInOrder rows.old }
     ensures { rows.new ≡ runs_of_rows rows.old }
 {
-    // By index: after `chunks_exact_mut` or a slice pattern a proof knows of the rows only their length.
+    // By index: a recursion over slice patterns was tried, and its last goal stayed open.
     for i in 0..rows.len() / 3 {
         let at = 3 * i;
         let first = rows[at];
