@@ -2,10 +2,10 @@
 #![tactic(auto)]
 
 ghost use Rattle.std.specs.Prelude.{◌≡◌, ◌*◌, ◌≤◌, ◌<◌, length, []};
-ghost use Rattle.entry.specs.Entry.{level_of, top_offset};
+ghost use Rattle.entry.specs.Entry.{level_of, levels_below, top_offset};
 ghost use Rattle.frames.specs.Rows.{rows_page};
 ghost use Rattle.walk.specs.Walk.{descend_of, descended};
-ghost use Rattle.walk.specs.Rows.{placed_mode, rows_world, TableInside, FitsAt, InTable, Shaped, entry_read, descent_of, ended_after, no_table};
+ghost use Rattle.walk.specs.Rows.{rows_world, TableInside, FitsAt, InTable, Shaped, entry_read, descent_of, ended_after, no_table};
 
 use base::{PAGE_BYTES, Refusal};
 use entry::{EntryPlace, Leaf, Level, PagingMode, Upper};
@@ -15,60 +15,66 @@ use walk::Descent;
 // The places of a PAE directory in its page.
 const PLACES: u64 = 128;
 
-// Down the tables of an address space.
+// Down the tables of an address space. Each mode has its own copy of the walk, with the numbers of its rows as constants.
 pub fn descend(rows: &[u64], image: &[u8], space: AddressSpace, address: u64) -> Descent
     ensures { result ≡ descent_of (descended (rows_world rows.now space image.now []) address) }
 {
-    let (mode, offset) = placed(space.mode);
     let top = frames::locate(rows, image.len() as u64, space.directory);
-    let below = levels::levels_below(mode);
-    descend_from(rows, image, mode, below, offset, top, address)
-}
-
-// A paging mode whose place is one of those in a page, and where its top table begins there.
-fn placed(mode: PagingMode) -> (PagingMode, u64)
-    ensures { (result.0 ≡ placed_mode mode) × (result.1 ≡ top_offset (placed_mode mode)) }
-{
-    match mode {
+    match space.mode {
+        PagingMode::FourLevel => descend_from(rows, image, PagingMode::FourLevel, 0, top, address),
+        PagingMode::Plain => descend_from(rows, image, PagingMode::Plain, 0, top, address),
         PagingMode::Pae(place) => {
             let place = place % PLACES;
-            (PagingMode::Pae(place), 32 * place)
+            let start = 32 * place;
+            descend_from(rows, image, PagingMode::Pae(place), start, top, address)
         }
-        _ => (mode, 0),
     }
 }
 
-// From a table with `below` levels below it, which begins at `offset` in its page.
+// From the top table, which begins at `start` in its page: a table a turn, with `below` levels below it.
+#[inline(always)]
 fn descend_from(
     rows: &[u64],
     image: &[u8],
     mode: PagingMode,
-    below: u64,
-    offset: u64,
-    table: Option<u64>,
+    start: u64,
+    top: Option<u64>,
     address: u64,
 ) -> Descent
-    requires inside { TableInside image.now table }
-    requires fits { FitsAt offset (level_of mode below) }
-    requires few { below ≤ 3 }
-    ensures { result ≡ descent_of (descend_of mode below (rows_page rows.now (length image.now)) image.now offset table address) }
+    requires inside { TableInside image.now top }
+    requires begins { start ≡ top_offset mode }
+    requires fits { FitsAt (top_offset mode) (level_of mode (levels_below mode)) }
+    ensures { result ≡ descent_of (descend_of mode (levels_below mode) (rows_page rows.now (length image.now)) image.now (top_offset mode) top address) }
 {
-    let Some(e) = table_entry(image, mode, below, offset, table, address) else {
-        let in_no_run = Leaf::Settled(EntryPlace::Refused(Refusal::FrameInNoRun));
-        return ended(in_no_run, 0);
-    };
-    if below == 0 {
-        return ended(last_entries::last_entry(mode, e), 1);
-    }
-    match upper_entries::upper_entry(levels::level_at(mode, below), e) {
-        Upper::Table(f) => {
-            let next = frames::locate(rows, image.len() as u64, f);
-            let rest = descend_from(rows, image, mode, below - 1, 0, next, address);
-            ended(rest.leaf, 1 + rest.entries)
+    let mut table = top;
+    let mut offset = start;
+    let mut below = levels::levels_below(mode);
+    let mut entries = 0;
+    loop {
+        let Some(e) = table_entry(image, mode, below, offset, table, address) else {
+            let in_no_run = Leaf::Settled(EntryPlace::Refused(Refusal::FrameInNoRun));
+            return ended(in_no_run, entries);
+        };
+        entries += 1;
+        if below == 0 {
+            return ended(last_entries::last_entry(mode, e), entries);
         }
-        Upper::LargePage(f, size) => ended(Leaf::Settled(EntryPlace::InFrame(f, size)), 1),
-        Upper::Refused(refusal) => ended(Leaf::Settled(EntryPlace::Refused(refusal)), 1),
-        Upper::UpperNeedsRegion => ended(Leaf::NeedsRegion, 1),
+        match upper_entries::upper_entry(levels::level_at(mode, below), e) {
+            Upper::Table(f) => {
+                table = frames::locate(rows, image.len() as u64, f);
+                offset = 0;
+                below -= 1;
+            }
+            Upper::LargePage(f, size) => {
+                return ended(Leaf::Settled(EntryPlace::InFrame(f, size)), entries);
+            }
+            Upper::Refused(refusal) => {
+                return ended(Leaf::Settled(EntryPlace::Refused(refusal)), entries);
+            }
+            Upper::UpperNeedsRegion => {
+                return ended(Leaf::NeedsRegion, entries);
+            }
+        }
     }
 }
 

@@ -1,6 +1,6 @@
 -- Down the tables step by step, as a loop goes: the entries read so far, and the descent from where it stands, are the whole descent.
 use Rattle.std.specs.Prelude.{Option, Some, None}
-use mathlib.Core.Path.{◌≡◌, sym, ap, ◌∙◌}
+use mathlib.Core.Path.{◌≡◌, refl, sym, ap, ◌∙◌}
 use mathlib.Core.List.{List}
 use Prim.Native.Nat.{ℕ, suc, ◌+◌, ◌-◌, ◌≤◌, ◌<◌}
 use native.Mathlib.Omega.{arith}
@@ -15,7 +15,7 @@ use Rattle.entry.specs.declared.Leaf.{Leaf}
 use Rattle.words.specs.Words.{little_at}
 use Rattle.frames.specs.Rows.{rows_page}
 use Rattle.walk.specs.Walk.{Trail, halt, entry_offset, upper_step, descend_of}
-use Rattle.walk.specs.Rows.{TableInside, FitsAt, descent_of, no_table}
+use Rattle.walk.specs.Rows.{TableInside, FitsAt, entry_read, descent_of, no_table}
 use Rattle.walk.specs.declared.Descent.{Descent}
 use Rattle.walk.proofs.Descending.{TopFits, plus, table_absent, table_last, table_upper, rows_inside}
 
@@ -23,6 +23,15 @@ pub record EntryAt (image : List ℕ) (l : Level) (o a : ℕ) (x : Option ℕ) (
   pub page : ℕ
   pub found : x ≡ Some page
   pub read : value ≡ little_at l.bytes image (entry_offset l page o a)
+
+-- what was read of a table: no entry where it is in no run, else the entry
+pub no_entry : (image : List ℕ) (l : Level) (o a : ℕ) (x v : Option ℕ) → v ≡ entry_read image l o a x → v ≡ None → x ≡ None
+no_entry image l o a None v e f = refl
+no_entry image l o a (Some p) v e f = absurd (let z : ◌≡◌ {A = ℕ} 0 1 = cc in omega arith)
+
+pub an_entry : (image : List ℕ) (l : Level) (o a : ℕ) (x v : Option ℕ) (value : ℕ) → v ≡ entry_read image l o a x → v ≡ Some value → EntryAt image l o a x value
+an_entry image l o a None v value e f = absurd (let z : ◌≡◌ {A = ℕ} 0 1 = cc in omega arith)
+an_entry image l o a (Some p) v value e f = record { page = p; found = refl; read = cc }
 
 -- the descent of a mode from the top table, and where the loop stands
 pub record Going (m : PagingMode) (rows image : List ℕ) (top : Option ℕ) (a : ℕ) (o : ℕ) (table : Option ℕ) (below entries : ℕ) : Type 0 where

@@ -26,7 +26,7 @@ use Rattle.entry.specs.declared.Upper.TheVariants as upper
 use Rattle.entry.specs.declared.Leaf.{Leaf}
 use Rattle.entry.specs.declared.Leaf.TheVariants.{Settled, Prototype, NeedsRegion}
 use Rattle.words.specs.Words.{little_at}
-use Rattle.walk.specs.Walk.{World, Trail, Next, no_more, deeper, in_page, frame_in, settle_of, settled, entry_offset, entry_of, upper_step, descend_of, descended, halt, leaf_step, body_of, resolve_of, noting, stop}
+use Rattle.walk.specs.Walk.{World, Walked, Trail, Next, no_more, deeper, in_page, frame_in, settle_of, settled, entry_offset, entry_of, upper_step, descend_of, descended, halt, leaf_step, body_of, resolve_of, noting, stop}
 use Rattle.walk.proofs.Descending.{Narrow}
 use Rattle.walk.specs.declared.Place.{Place}
 use Rattle.walk.specs.declared.Place.TheVariants.{Image, Refused}
@@ -197,6 +197,36 @@ module _ (w : World) (h : Narrow w.space.mode) where
   unfolding resolve_of
   narrow_walk zero a = body_narrow no_more a
   narrow_walk (suc n) a = body_narrow (deeper (resolve_of n w)) a
+
+-- ---- the pagefile is never asked
+
+module _ (w : World) (h : Narrow w.space.mode) (q : List ℕ) where
+  -- the same world with another pagefile
+  abbrev other : World
+  other = record { space = w.space; page = w.page; image = w.image; pagefile = q }
+
+  settled_same : (a : ℕ) (r : EntryPlace) → NarrowEntry w.space.mode r → settled other a r ≡ settled w a r
+  unfolding settle_of
+  settled_same a (InFrame f s) t = refl
+  settled_same a (InPagefile p) t = absurd t
+  settled_same a ZeroPage t = absurd t
+  settled_same a (entry_place.Refused r) t = refl
+
+  leaf_same : (next last : Next) (a : ℕ) (l : Leaf) → NarrowLeaf w.space.mode l → leaf_step other next a l ≡ leaf_step w last a l
+  leaf_same next last a (Settled r) t = ap (λ (p : Place). stop p) (settled_same a r t)
+  leaf_same next last a (Prototype x) t = absurd t
+  leaf_same next last a NeedsRegion t = absurd t
+
+  body_same : (next last : Next) (a : ℕ) → body_of other next a ≡ body_of w last a
+  body_same next last a =
+      ap (λ (x : Walked). if reachable_in w.space.mode a then noting (descended w a).trace x else stop (Refused NotCanonical))
+      (leaf_same next last a (descended w a).leaf (descend_narrow_lem w.space.mode h (levels_below w.space.mode) w.page w.image (top_offset w.space.mode) (w.page w.space.directory) a))
+
+  -- an address of a 32-bit profile leads to one place, whatever the pagefile
+  pub any_pagefile : (n a : ℕ) → resolve_of n other a ≡ resolve_of n w a
+  unfolding resolve_of
+  any_pagefile zero a = body_same no_more no_more a
+  any_pagefile (suc n) a = body_same (deeper (resolve_of n other)) (deeper (resolve_of n w)) a
 
 -- at most 2 entries in the plain mode, 3 in PAE
 pub plain_entries : (w : World) → w.space.mode ≡ Plain → (n a : ℕ) → length (resolve_of n w a).trace ≤ 2

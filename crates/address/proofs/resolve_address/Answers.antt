@@ -9,4 +9,4 @@ overflow_add-row c = omega (arith, c.number-first.ensures, told_end _ _ _ _ _ _ 
 pub returns-in-Some : goal.returns-in-Some
 returns-in-Some c =
     rw c.into.ensures
-    (one_run_answered _ _ _ _ _ _ c.read_one_run.ensures c.in-Some.is c.number-first.ensures _ c.resolve.ensures)
+    (one_run_answered _ _ _ _ _ _ c.read_one_run.ensures c.in-Some.is c.number-first.ensures _ c.resolve_four_level.ensures)

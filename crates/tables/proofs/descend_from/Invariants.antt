@@ -1,0 +1,9 @@
+-- The entries read so far, and the descent from where the loop stands, are the whole descent.
+use Rattle.walk.proofs.Loop.{Going}
+use Rattle.tables.proofs.descend_from.Given as goal
+
+abbrev pub invariant-loop-e : goal.invariant-loop-e
+invariant-loop-e l = Going l.mode l.rows l.image l.initial.table l.address l.offset l.table l.below l.entries
+
+abbrev pub decreases-loop-e : goal.decreases-loop-e
+decreases-loop-e l = l.below
