@@ -148,3 +148,15 @@ accepted_four c old v new p h q f =
 
     own : (v ≡ opened_of (check_of c)) × RowsLaid old (check_of c) new
     own = let e = same_check (check_of c) ready in (q.same ∙ ap opened_of e, subst (λ (d : Read Sheet). RowsLaid old d new) e q.rows)
+
+-- what was opened of a case of four levels is what a call opens that serves four levels alone
+pub opens_served : (c : Case) (old : List ℕ) (v : Result (AddressSpace × ℕ) Fault) (new : List ℕ) (p : AddressSpace × ℕ) → Opens (check_of c) old v new → v ≡ Ok p → p.0.mode ≡ FourLevel → Opens (served (check_of c)) old v new
+opens_served c old v new p q f k = go (check_of c) q
+  where
+    go : (d : Read Sheet) → Opens d old v new → Opens (served d) old v new
+    go (refused x) h = h
+    go (got s at) h =
+        let both : (s.space, 3 * length s.runs) ≡ p = cc in
+        let four : s.space.mode ≡ FourLevel = ap (λ (x : AddressSpace × ℕ). x.0.mode) both ∙ k in
+        let same : served_in s.space.mode (got s at) ≡ got s at = rw four refl in
+        subst (λ (d : Read Sheet). Opens d old v new) (sym same) h
