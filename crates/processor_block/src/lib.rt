@@ -13,9 +13,7 @@ mod candidate;
 use base::{Fault, PAGE_BYTES, Refusal};
 use candidate::Candidate;
 use case::Answer;
-use entry::PagingMode;
 use resolution::OpenCase;
-use sheet::AddressSpace;
 use walk::Place;
 
 // An opened case whose image has whole pages.
@@ -102,11 +100,13 @@ impl WholePages<'_> {
         if !candidate.fits() {
             return None;
         }
-        let space = AddressSpace {
-            directory: candidate.directory(),
-            mode: PagingMode::FourLevel,
-        };
-        let found = OpenCase { space, ..self.case }.resolve(candidate.own());
+        let found = resolution::resolve_four_level(
+            self.case.rows,
+            self.case.image,
+            self.case.pagefile,
+            candidate.directory(),
+            candidate.own(),
+        );
         if !is_at(found.place, offset) {
             return None;
         }

@@ -11,10 +11,10 @@ returns-then-not-fits c = unfit_none _ _ (sym c.fits.ensures ∙ c.if-not-fits.t
 
 pub returns-then-not-is_at : goal.returns-then-not-is_at
 returns-then-not-is_at c =
-    elsewhere_none _ _ _ (own_walk _ _ _ _ _ c.own.ensures c.directory.ensures c.resolve-found.ensures)
+    elsewhere_none _ _ _ (own_walk _ _ _ _ _ c.own.ensures c.directory.ensures c.resolve_four_level-found.ensures)
     (sym c.is_at.ensures ∙ c.if-not-is_at.true)
 
 pub returns : goal.returns
 returns c =
-    here_some _ _ _ (own_walk _ _ _ _ _ c.own.ensures c.directory.ensures c.resolve-found.ensures)
+    here_some _ _ _ (own_walk _ _ _ _ _ c.own.ensures c.directory.ensures c.resolve_four_level-found.ensures)
     c.requires.0 c.requires.1 (sym c.fits.ensures ∙ c.if-not-fits.false) (sym c.is_at.ensures ∙ c.if-not-is_at.false)
