@@ -76,6 +76,16 @@ module _ (ns : Nodes) (old last : List ℕ) (r : Result ℕ Refusal) (p : Pass n
 
 module _ (m : PagingMode) (o : OpenCase) (h : ℕ) (old : List ℕ) (d : Result OpenCase Refusal) (e : d ≡ four_levels_case m o) where
   module _ (k : OpenCase) (f : d ≡ Ok k) where
+    pub served_mode : m ≡ o.space.mode → k.space.mode ≡ FourLevel
+    served_mode z = go m (sym e ∙ f) z
+      where
+        go : (m : PagingMode) → four_levels_case m o ≡ Ok k → m ≡ o.space.mode → k.space.mode ≡ FourLevel
+        go FourLevel g z =
+            let same : k ≡ o = cc in
+            rw same (sym z)
+        go Plain g z = cc
+        go (Pae place) g z = cc
+
     pub served_list : listed old (nodes_of (open_world k) (length old) h) ≡ list_into m (open_world o) h old
     served_list = go m (sym e ∙ f)
       where

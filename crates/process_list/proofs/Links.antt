@@ -7,11 +7,22 @@ use lib.Dec.{eqb}
 use borrow.Author.Tests.{eqb-true, eq-eqb}
 use Rattle.base.specs.declared.Refusal.{Refusal}
 use Rattle.base.specs.declared.Refusal.TheVariants.{NotCanonical, LinkUnaligned, BackLinkDiffers}
+use Rattle.entry.specs.declared.PagingMode.TheVariants.{FourLevel}
 use Rattle.entry.proofs.Addresses.{past_top}
-use Rattle.walk.specs.Walk.{World}
+use Rattle.walk.specs.Walk.{World, resolve_of}
+use Rattle.walk.specs.Rows.{four_levels, rows_world, resolved_of}
+use Rattle.walk.specs.declared.Resolved.{Resolved}
 use Rattle.walk.proofs.Cycle.{body}
-use Rattle.process_list.specs.List.{link_of, and_then, aligned, next_node}
+use Rattle.resolution.specs.Open.{open_world}
+use Rattle.resolution.specs.declared.OpenCase.{OpenCase}
+use Rattle.process_list.specs.List.{link_at, link_of, and_then, aligned, next_node}
 use Rattle.process_list.specs.Exact.{Follows}
+
+-- where four levels lead in a case that has them, its word is read
+pub link_placed : (c : OpenCase) → c.space.mode ≡ FourLevel → (a : ℕ) (r : Resolved) → r ≡ resolved_of (resolve_of 3 (rows_world c.rows.now (four_levels c.space.directory) c.image.now c.pagefile.now) a)
+    → link_at c.image.now c.pagefile.now r.place ≡ link_of (open_world c) a
+unfolding link_of
+link_placed c e a r f = rw (e, f)
 
 -- past the top nothing can be read
 pub link_past_top : (w : World) (a : ℕ) → 2 ^ 64 ≤ a → Err NotCanonical ≡ link_of w a

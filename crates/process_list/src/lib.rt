@@ -2,6 +2,7 @@
 #![tactic(auto)]
 
 ghost use Rattle.std.specs.Prelude.{◌≡◌, ◌+◌};
+ghost use Rattle.entry.specs.declared.PagingMode.TheVariants.{FourLevel};
 ghost use Rattle.walk.specs.Rows.{WordInside};
 ghost use Rattle.resolution.specs.Open.{open_world};
 ghost use Rattle.case.specs.Case.{case_of};
@@ -18,6 +19,13 @@ use walk::Place;
 
 // 01's limit of a list.
 const MOST_PROCESSES: u64 = 4096;
+
+// An opened case in four levels.
+#[derive(Clone, Copy)]
+struct FourLevelCase<'a> {
+    case: OpenCase<'a>,
+    ghost four: { case.space.mode ≡ FourLevel },
+}
 
 // The addresses of the nodes of the list at a head into the lent buffer.
 pub fn process_list(
@@ -42,16 +50,17 @@ pub fn process_list(
 fn list_in(case: OpenCase, head: u64, out: &mut [u64]) -> Result<u64, Fault>
     ensures { (result, out.new) ≡ list_into case.entry.space.mode (open_world case.entry) head out.old }
 {
-    let case = &case::four_levels_case(case)?;
+    let case = case::four_levels_case(case)?;
+    let four = &FourLevelCase { case };
     let head = Link::try_from(head)?;
     let room = out.len() as u64;
-    follow(case, head, room, &mut out[..0])?;
-    Ok(follow(case, head, room, out)?)
+    follow(four, head, room, &mut out[..0])?;
+    Ok(follow(four, head, room, out)?)
 }
 
 // Follows the links from the head on, for a buffer with `room` places, and lays the nodes over a buffer as far as that goes.
-fn follow(case: &OpenCase, head: Link, room: u64, out: &mut [u64]) -> Result<u64, Refusal>
-    ensures { Pass (nodes_after 4096 (open_world case.now) room head.address head.address) out.old result out.new }
+fn follow(case: &FourLevelCase, head: Link, room: u64, out: &mut [u64]) -> Result<u64, Refusal>
+    ensures { Pass (nodes_after 4096 (open_world case.now.case) room head.address head.address) out.old result out.new }
 {
     let mut node = head;
     for count in 0..MOST_PROCESSES {
@@ -74,8 +83,8 @@ fn follow(case: &OpenCase, head: Link, room: u64, out: &mut [u64]) -> Result<u64
 
 // The node after a node, its back link compared.
 #[tactic(auto, unfolding(crate::specs::List::next_node))]
-fn next_node(case: &OpenCase, node: Link) -> Result<Link, Refusal>
-    ensures { linked result ≡ next_node (open_world case.now) node.address }
+fn next_node(case: &FourLevelCase, node: Link) -> Result<Link, Refusal>
+    ensures { linked result ≡ next_node (open_world case.now.case) node.address }
 {
     let next = Link::try_from(read_link(case, node)?)?;
     if back_link(case, next)? != node.address {
@@ -86,8 +95,8 @@ fn next_node(case: &OpenCase, node: Link) -> Result<Link, Refusal>
 
 // A node's back word, 8 bytes on, which may lie in the next page or past the top.
 #[tactic(auto, using(crate::proofs::Links::link_past_top))]
-fn back_link(case: &OpenCase, node: Link) -> Result<u64, Refusal>
-    ensures { result ≡ link_of (open_world case.now) (node.address + 8) }
+fn back_link(case: &FourLevelCase, node: Link) -> Result<u64, Refusal>
+    ensures { result ≡ link_of (open_world case.now.case) (node.address + 8) }
 {
     let Some(address) = node.address.checked_add(8) else {
         return Err(Refusal::NotCanonical);
@@ -96,11 +105,18 @@ fn back_link(case: &OpenCase, node: Link) -> Result<u64, Refusal>
 }
 
 // The word at an address.
-#[tactic(auto, using(walk::proofs::Cycle::word_found), unfolding(crate::specs::List::link_of))]
-fn read_link(case: &OpenCase, link: Link) -> Result<u64, Refusal>
-    ensures { result ≡ link_of (open_world case.now) link.address }
+fn read_link(case: &FourLevelCase, link: Link) -> Result<u64, Refusal>
+    ensures { result ≡ link_of (open_world case.now.case) link.address }
 {
-    link_at(case, case.resolve(link.address).place)
+    let case = &case.case;
+    let found = resolution::resolve_four_level(
+        case.rows,
+        case.image,
+        case.pagefile,
+        case.space.directory,
+        link.address,
+    );
+    link_at(case, found.place)
 }
 
 // The word at a place, 0 in a page of zeros. A refusal goes on here; `word_at_place` of the walk is asked of no refused place.

@@ -4,4 +4,4 @@ use Rattle.process_list.proofs.Following.{Following}
 use Rattle.process_list.proofs.follow.Given as goal
 
 abbrev pub invariant-loop-count : goal.invariant-loop-count
-invariant-loop-count l = Following (open_world l.case) l.head.address l.room l.initial.out l.count l.node.address l.out
+invariant-loop-count l = Following (open_world l.case.case) l.head.address l.room l.initial.out l.count l.node.address l.out

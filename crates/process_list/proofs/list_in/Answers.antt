@@ -1,8 +1,11 @@
 -- The first pass has no room to write in; the second lays what the first found.
-use Rattle.std.proofs.Common.{rules, ◌≡◌, Err, ◌∙◌}
+use Rattle.std.proofs.Common.{rules, ◌≡◌, Err, refl, ◌∙◌}
 use Rattle.base.specs.Refusal.{unplaced}
-use Rattle.process_list.proofs.Answers.{unaligned_head, aligned_head, refused_list, whole_list}
+use Rattle.process_list.proofs.Answers.{served_mode, unaligned_head, aligned_head, refused_list, whole_list}
 use Rattle.process_list.proofs.list_in.Goals as goal
+
+pub invariant_of-four : goal.invariant_of-four
+invariant_of-four c = record { four = served_mode _ _ c.args.head c.args.out.now _ c.four_levels_case.ensures _ c.in_ok-case.was refl }
 
 pub returns-in_err-head : goal.returns-in_err-head
 returns-in_err-head c =
