@@ -91,27 +91,25 @@ pub struct Builder {
 
 impl Builder {
     // Takes one page: it makes the open extent longer, or the open extent is written and the page opens the next.
-    pub fn push(self, out: &mut [u8], page: MappedPage) -> Self
+    pub fn push(mut self, out: &mut [u8], page: MappedPage) -> Self
         requires { RoomFor self 1 }
         ensures { PagesTaken out.old self (page ∷ []) out.new result }
     {
         match self.last {
             Some(e) if e.joins(page.code, page.file) => {
                 let pages = e.pages + 1;
-                Builder {
-                    last: Some(Extent { pages, ..e }),
-                    ..self
-                }
+                self.last = Some(Extent { pages, ..e });
             }
-            _ => Builder {
-                at: self.finish(out),
-                last: Some(Extent {
+            _ => {
+                self.at = self.finish(out);
+                self.last = Some(Extent {
                     code: page.code,
                     pages: 1,
                     first: page.file,
-                }),
-            },
+                });
+            }
         }
+        self
     }
 
     // Writes the open extent and answers the place after it.
