@@ -4,7 +4,6 @@ use Rattle.words.specs.Words.{word_at}
 use Rattle.case.specs.Case.{Case, case_of}
 use Rattle.address.specs.Call.{address_of}
 use Rattle.address.specs.Line.{line_of}
-use Rattle.address_lines.specs.declared.CaseFiles.{CaseFiles}
 
 -- the bytes from one place to another
 abbrev pub part : List ℕ → ℕ → ℕ → List ℕ
@@ -15,5 +14,5 @@ abbrev pub case_of_files : List ℕ → ℕ → ℕ → ℕ → Case
 case_of_files buf image pagefile end = case_of (take image buf) (part buf image pagefile) (part buf pagefile end)
 
 -- the line for the 8 bytes of an address
-abbrev pub line_for : CaseFiles → List ℕ → List ℕ
-line_for f address = line_of (address_of (case_of f.sheet.now f.image.now f.pagefile.now) (word_at address 0))
+abbrev pub line_for : List ℕ → ℕ → ℕ → ℕ → List ℕ → List ℕ
+line_for buf image pagefile end address = line_of (address_of (case_of_files buf image pagefile end) (word_at address 0))

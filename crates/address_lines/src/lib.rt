@@ -38,7 +38,7 @@ pub fn run(rt: &(impl OpenFiles + Env + Input + Print)) -> io::Result<()> {
     let Some(files) = load_all(rt, &mut buf) else {
         return Ok(());
     };
-    answer_all(&mut rt.reader(), &mut io::writer(rt), files.cut(&buf))
+    answer_all(&mut rt.reader(), &mut io::writer(rt), &buf, files)
 }
 
 // ---- the line
@@ -142,11 +142,12 @@ fn read_all(file: &mut impl Read, buf: &mut [u8], at: usize) -> Option<usize>
 fn answer_all(
     input: &mut impl Read,
     output: &mut impl Write,
-    files: CaseFiles<'_>,
+    buf: &[u8; 65537],
+    files: Files,
 ) -> io::Result<()> {
     // No input has 2^64 - 1 addresses.
     for _ in 0..u64::MAX {
-        if !answer_next(input, output, files)? {
+        if !answer_next(input, output, buf, files)? {
             break;
         }
     }
@@ -157,21 +158,23 @@ fn answer_all(
 fn answer_next(
     input: &mut impl Read,
     output: &mut impl Write,
-    files: CaseFiles<'_>,
+    buf: &[u8; 65537],
+    files: Files,
 ) -> io::Result<bool> {
     let mut address = [0u8; 8];
     if !read_whole(input, &mut address)? {
         return Ok(false);
     }
+    let case = files.cut(buf);
     let mut line = [0u8; 64];
     let n = write_line(
-        files.sheet,
-        files.image,
-        files.pagefile,
+        case.sheet,
+        case.image,
+        case.pagefile,
         words::word_at(&address, 0),
         &mut line,
     );
-    print_line(output, files, &address, &line[..n])?;
+    print_line(output, buf, files, &address, &line[..n])?;
     Ok(true)
 }
 
@@ -187,11 +190,12 @@ fn read_whole(input: &mut impl Read, bytes: &mut [u8]) -> io::Result<bool> {
 // Prints a line. What standard output holds no contract can say, so the `requires` says what the line is.
 fn print_line<W: Write>(
     output: &mut W,
-    files: CaseFiles<'_>,
+    buf: &[u8; 65537],
+    files: Files,
     address: &[u8],
     line: &[u8],
 ) -> io::Result<()>
-    requires { line.now ≡ line_for files address.now }
+    requires { line.now ≡ line_for buf.now files.image files.pagefile files.end address.now }
     ensures { OnOk result (Appends (W.contents output.old) (W.contents output.new) line.now) }
 {
     output.write_all(line)

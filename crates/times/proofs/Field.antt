@@ -1,5 +1,5 @@
 -- The 8 bytes that the read call hands back are the field of the definition.
-use mathlib.Core.Path.{◌≡◌, refl, sym, ap, ◌∙◌}
+use mathlib.Core.Path.{◌≡◌, refl, ap, ◌∙◌}
 use mathlib.Core.List.{List, [], ◌∷◌, ◌++◌}
 use mathlib.Core.Bool.{Bool}
 use Prim.Native.Nat.{ℕ, zero, suc, ◌+◌, ◌*◌, ◌/◌, ◌≤◌}
@@ -8,9 +8,9 @@ use lib.ListN.{length, take, drop, length-append, length-drop}
 use lib.Seq.{sets, sets-eq, take_at, length-take-le}
 use borrow.Author.Tests.{le-ltb}
 use Rattle.std.proofs.Common.{Result, Ok, Err}
-use Rattle.base.specs.Refusal.{refusal_number, unplaced}
-use Rattle.base.specs.declared.Fault.{Fault}
+use Rattle.base.specs.Refusal.{refusal_number}
 use Rattle.base.specs.declared.Refusal.{Refusal}
+use Rattle.base.proofs.Numbers.{ten_or_more}
 use Rattle.varint.specs.Reader as reader
 use Rattle.words.specs.Words.{little, word_at, little_at}
 use Rattle.sheet.specs.Sheet.{Sheet}
@@ -20,10 +20,8 @@ use Rattle.walk.specs.declared.Place.TheVariants.{Image, Pagefile, Zeros, Refuse
 use Rattle.case.specs.Case.{Case, check_of, by_check}
 use Rattle.reading.specs.Bytes.{Bytes, bytes, byte_then, bytes_of}
 use Rattle.reading.specs.Bytes as reading
-use Rattle.case.proofs.Opening.{case_grounded}
 use Rattle.reading.specs.Call.{ReadOutcome, fault_bytes, read_all, read_of, ReadAnswer}
 use Rattle.reading.specs.declared.BytesRead.{BytesRead}
-use Rattle.reading.specs.Inner.{read_from, read_into, read_case}
 use Rattle.times.specs.Time.{Ticks, ticks, refused, judged, ticks_in, ticks_at}
 use Rattle.times.specs.Call.{no_time, time_read, time_told, TimeAnswer}
 use Rattle.times.specs.declared.Time.{Time}
@@ -76,89 +74,16 @@ laid_word : (old xs : List ℕ) → length old ≡ 8 → length xs ≡ 8 → wor
 unfolding little_at
 laid_word old xs h n = rw (sets-eq xs old 0 (omega arith)) (ap little (take_at xs _ 8 n))
 
-module _ (c : Case) (a : ℕ) (old : List ℕ) (r : Result Bool Fault) (new : List ℕ) (room : length old ≡ 8) (q : (r, new) ≡ read_case c a 8 old) where
-  first : {p : Result Bool Fault × List ℕ} → (r, new) ≡ p → r ≡ p.0
-  first e = ap (λ (o : Result Bool Fault × List ℕ). o.0) e
-
-  last : {p : Result Bool Fault × List ℕ} → (r, new) ≡ p → new ≡ p.1
-  last e = ap (λ (o : Result Bool Fault × List ℕ). o.1) e
-
-  in_world : (w : World) → (r, new) ≡ read_into w a 8 old → (r, new) ≡ read_from old (bytes_of 8 w a)
-  in_world w e = rw (le-ltb (length old) 8 (omega arith)) at e
-
-  field_refused : (f : Fault) → r ≡ Err f → ticks_at c a ≡ refused f.refusal
-  unfolding ticks_at
-  field_refused f h = go (check_of c) q
-    where
-      field : (b : Bytes) → (r, new) ≡ read_from old b → ticks_in b ≡ refused f.refusal
-      field (bytes xs z) e = absurd (let x : ◌≡◌ {A = ℕ} 0 1 = cc (first e) in omega arith)
-      field (reading.refused x) e = ap (λ (y : Refusal). refused y) (let same : unplaced x ≡ f = cc (first e) in ap (λ (y : Fault). y.refusal) same)
-
-      go : (d : reader.Read Sheet) → (r, new) ≡ by_check c (λ f. (Err f, old)) (λ w. read_into w a 8 old) d → by_check c (λ f. refused f.refusal) (λ w. ticks_in (bytes_of 8 w a)) d ≡ refused f.refusal
-      go (reader.got s at) e = let w = world_of s c.image c.pagefile in field (bytes_of 8 w a) (in_world w e)
-      go (reader.refused x) e = let same : x ≡ f = cc (first e) in rw same
-
-  field_read : (z : Bool) → r ≡ Ok z → ticks_at c a ≡ judged (word_at new 0)
-  unfolding ticks_at
-  field_read z h = go (check_of c) (λ k. case_grounded c (a + k)) q
-    where
-      field : (w : World) → ((k : ℕ) → Grounded w (resolve_of 3 w (a + k))) → (b : Bytes) → bytes_of 8 w a ≡ b → (r, new) ≡ read_from old b → ticks_in b ≡ judged (word_at new 0)
-      field w g (bytes xs y) f e = sym (ap judged (ap (λ (l : List ℕ). word_at l 0) (last e) ∙ laid_word old xs room (bytes_long w 8 a g xs y f)))
-      field w g (reading.refused x) f e = absurd (let x : ◌≡◌ {A = ℕ} 0 1 = cc (first e) in omega arith)
-
-      go : (d : reader.Read Sheet) → ((k : ℕ) → by_check c (λ x. Unit {0}) (λ w. Grounded w (resolve_of 3 w (a + k))) d) → (r, new) ≡ by_check c (λ f. (Err f, old)) (λ w. read_into w a 8 old) d
-          → by_check c (λ f. refused f.refusal) (λ w. ticks_in (bytes_of 8 w a)) d ≡ judged (word_at new 0)
-      go (reader.got s at) g e = let w = world_of s c.image c.pagefile in field w g (bytes_of 8 w a) refl (in_world w e)
-      go (reader.refused x) g e = absurd (let x : ◌≡◌ {A = ℕ} 0 1 = cc (first e) in omega arith)
-
--- what is at fault without its place
-abbrev pub placeless : Result Bool Fault → Result Bool Refusal
-placeless (Ok z) = Ok z
-placeless (Err f) = Err f.refusal
-
-module _ (c : Case) (a : ℕ) (old : List ℕ) (r : Result Bool Fault) (new : List ℕ) (room : length old ≡ 8) (q : (r, new) ≡ read_case c a 8 old) where
-  pub field_at_fault : (x : Refusal) → placeless r ≡ Err x → time_told (ticks_at c a) ≡ Err x
-  field_at_fault x = go r refl
-    where
-      go : (d : Result Bool Fault) → r ≡ d → placeless d ≡ Err x → time_told (ticks_at c a) ≡ Err x
-      go (Ok z) e h = absurd (let x : ◌≡◌ {A = ℕ} 0 1 = cc in omega arith)
-      go (Err f) e h =
-          let same : f.refusal ≡ x = cc in
-          rw (field_refused c a old r new room q f e, same)
-
-  pub read_field : (z : Bool) → placeless r ≡ Ok z → ticks_at c a ≡ judged (word_at new 0)
-  read_field z = go r refl
-    where
-      go : (d : Result Bool Fault) → r ≡ d → placeless d ≡ Ok z → ticks_at c a ≡ judged (word_at new 0)
-      go (Ok z) e h = field_read c a old r new room q z e
-      go (Err f) e h = absurd (let x : ◌≡◌ {A = ℕ} 0 1 = cc in omega arith)
-
--- ---- the answer
-
--- of the time, or of what is at fault
-abbrev pub answer : Result Time Refusal → TimeRead
-answer (Ok t) = record { number = 0; time = t }
-answer (Err r) = no_time (refusal_number r)
-
-told_read : (t : Ticks) → answer (time_told t) ≡ time_read t
-told_read (ticks t) = refl
-told_read (refused r) = refl
-
-pub time_answer : (c : Case) (a : ℕ) (r : Result Time Refusal) → r ≡ time_told (ticks_at c a) → TimeAnswer c a (answer r)
-time_answer c a r e =
-    let same : answer r ≡ time_read (ticks_at c a) = ap answer e ∙ told_read (ticks_at c a) in
-    record { same = same; exact = rw same (exact_answer c a); grounded = λ k. case_grounded c (a + k) }
-
--- the same of a read by the public call: a refused one has the refusal's number, and a time of none
 module _ (c : Case) (a : ℕ) (old : List ℕ) (v : BytesRead) (new : List ℕ) (room : length old ≡ 8) (q : ReadAnswer c a 8 old v new) where
   abbrev outcome : ReadOutcome
   outcome = record { answer = v; buffer = new }
 
+  promise : (r : TimeRead) → r ≡ time_read (ticks_at c a) → TimeAnswer c a r
+  promise r e = record { same = e; exact = rw e (exact_answer c a); grounded = q.grounded }
+
   pub refused_field : (v.number ≡ 0 → ⊥) → (r : TimeRead) → r ≡ no_time v.number → TimeAnswer c a r
   unfolding read_of ticks_at
-  refused_field h r e =
-      let same : r ≡ time_read (ticks_at c a) = e ∙ go (check_of c) (rw (le-ltb (length old) 8 (omega arith)) at q.same) in
-      record { same = same; exact = rw same (exact_answer c a); grounded = q.grounded }
+  refused_field h r e = promise r (e ∙ go (check_of c) (rw (le-ltb (length old) 8 (omega arith)) at q.same))
     where
       field : (b : Bytes) → outcome ≡ read_all old 8 b → no_time v.number ≡ time_read (ticks_in b)
       field (bytes xs z) f = absurd (h (ap (λ (o : ReadOutcome). o.answer.number) f))
@@ -168,3 +93,35 @@ module _ (c : Case) (a : ℕ) (old : List ℕ) (v : BytesRead) (new : List ℕ) 
           → no_time v.number ≡ time_read (by_check c (λ f. refused f.refusal) (λ w. ticks_in (bytes_of 8 w a)) d)
       go (reader.got s at) f = field (bytes_of 8 (world_of s c.image c.pagefile) a) f
       go (reader.refused x) f = ap (λ (o : ReadOutcome). no_time o.answer.number) f
+
+  pub read_field_lem : v.number ≡ 0 → (r : TimeRead) → r ≡ time_read (judged (word_at new 0)) → TimeAnswer c a r
+  unfolding read_of ticks_at
+  read_field_lem h r e = promise r (e ∙ ap time_read (go (check_of c) q.grounded (rw (le-ltb (length old) 8 (omega arith)) at q.same)))
+    where
+      no : (x : Refusal) → v.number ≡ refusal_number x → ⊥
+      no x f = omega (arith, ten_or_more x, f, h)
+
+      field : (w : World) → ((k : ℕ) → Grounded w (resolve_of 3 w (a + k))) → (b : Bytes) → bytes_of 8 w a ≡ b → outcome ≡ read_all old 8 b → judged (word_at new 0) ≡ ticks_in b
+      field w g (bytes xs z) f k = ap judged (ap (λ (o : ReadOutcome). word_at o.buffer 0) k ∙ laid_word old xs room (bytes_long w 8 a g xs z f))
+      field w g (reading.refused x) f k = absurd (no x (ap (λ (o : ReadOutcome). o.answer.number) k))
+
+      go : (d : reader.Read Sheet) → ((k : ℕ) → by_check c (λ x. Unit {0}) (λ w. Grounded w (resolve_of 3 w (a + k))) d)
+          → outcome ≡ by_check c (λ f. record { answer = fault_bytes f; buffer = old }) (λ w. read_all old 8 (bytes_of 8 w a)) d → judged (word_at new 0) ≡ by_check c (λ f. refused f.refusal) (λ w. ticks_in (bytes_of 8 w a)) d
+      go (reader.got s at) g f =
+          let w = world_of s c.image c.pagefile in
+          field w g (bytes_of 8 w a) refl f
+      go (reader.refused x) g f = absurd (no x.refusal (ap (λ (o : ReadOutcome). o.answer.number) f))
+
+-- ---- the answer
+
+-- of the time, or of what is at fault
+abbrev pub answer : Result Time Refusal → TimeRead
+answer (Ok t) = record { number = 0; time = t }
+answer (Err r) = no_time (refusal_number r)
+
+pub told_read : (t : Ticks) (r : Result Time Refusal) → r ≡ time_told t → answer r ≡ time_read t
+told_read t r e = ap answer e ∙ go t
+  where
+    go : (t : Ticks) → answer (time_told t) ≡ time_read t
+    go (ticks t) = refl
+    go (refused r) = refl

@@ -4,7 +4,7 @@
 ghost use Rattle.std.specs.Prelude.{◌≡◌, ◌<◌, ◌^◌};
 ghost use Rattle.case.specs.Case.{case_of};
 ghost use Rattle.base.specs.Refusal.{refusal_number};
-ghost use Rattle.times.specs.Time.{judged, ticks_at};
+ghost use Rattle.times.specs.Time.{judged};
 ghost use Rattle.times.specs.Call.{time_of, no_time, time_told, TimeAnswer};
 
 use base::Refusal;
@@ -34,10 +34,7 @@ impl From<Refusal> for TimeRead {
     ghost from_gives = { λ r t. t ≡ no_time (refusal_number r) };
 
     fn from(refusal: Refusal) -> TimeRead {
-        TimeRead {
-            number: refusal.number(),
-            time: split(0),
-        }
+        refuse(refusal.number())
     }
 }
 
@@ -45,20 +42,15 @@ impl From<Refusal> for TimeRead {
 pub fn read_time(sheet: &[u8], image: &[u8], pagefile: &[u8], address: u64) -> TimeRead
     ensures { TimeAnswer (case_of sheet.now image.now pagefile.now) address result }
 {
-    match time_at(sheet, image, pagefile, address) {
+    let mut field = [0u8; 8];
+    let read = reading::read_bytes(sheet, image, pagefile, address, 8, &mut field);
+    if read.number != 0 {
+        return refuse(read.number);
+    }
+    match judge(words::word_at(&field, 0)) {
         Ok(time) => TimeRead { number: 0, time },
         Err(refusal) => refusal.into(),
     }
-}
-
-// The same, or what is at fault.
-fn time_at(sheet: &[u8], image: &[u8], pagefile: &[u8], address: u64) -> Result<Time, Refusal>
-    ensures { result ≡ time_told (ticks_at (case_of sheet.now image.now pagefile.now) address) }
-{
-    let mut field = [0u8; 8];
-    let read = reading::read_case(sheet, image, pagefile, address, 8, &mut field);
-    read.map_err(|fault| fault.refusal)?;
-    judge(words::word_at(&field, 0))
 }
 
 // 60, 61 or the time.
@@ -72,6 +64,16 @@ fn judge(ticks: u64) -> Result<Time, Refusal>
         return Err(Refusal::TimeTooLarge);
     }
     Ok(split(ticks))
+}
+
+// A time of none, with the number of what is at fault.
+fn refuse(number: u64) -> TimeRead
+    ensures { result ≡ no_time number }
+{
+    TimeRead {
+        number,
+        time: split(0),
+    }
 }
 
 // The casts are defined only where nothing is lost.
