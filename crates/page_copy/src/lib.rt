@@ -27,5 +27,8 @@ fn copy(page: &[u8], out: &mut [u8])
     ensures { out.new ≡ sets out.old 0 page.now }
 {
     let n = page.len().min(out.len());
-    out[..n].copy_from_slice(&page[..n]);
+    // By index: `copy_from_slice` would need memmove of the C library.
+    for i in 0..n {
+        out[i] = page[i];
+    }
 }

@@ -1,7 +1,7 @@
 // The read call: bytes of a case from an address on.
 #![tactic(auto)]
 
-ghost use Rattle.std.specs.Prelude.{◌≡◌, ◌+◌, ◌%◌, ◌≤◌};
+ghost use Rattle.std.specs.Prelude.{◌≡◌, ◌+◌, ◌%◌, ◌≤◌, length};
 ghost use Rattle.walk.specs.Walk.{resolve_of};
 ghost use Rattle.case.specs.Case.{case_of};
 ghost use Rattle.resolution.specs.Open.{open_world};
@@ -127,12 +127,12 @@ fn lay(case: &OpenCase, place: Place, m: u64, out: &mut [u8], at: u64) -> Result
     match place {
         Place::Image(o) => {
             let o = o as usize;
-            room.copy_from_slice(&case.image[o..o + n]);
+            copy(room, &case.image[o..o + n]);
             Ok(false)
         }
         Place::Pagefile(o) => {
             let o = o as usize;
-            room.copy_from_slice(&case.pagefile[o..o + n]);
+            copy(room, &case.pagefile[o..o + n]);
             Ok(false)
         }
         Place::Zeros => {
@@ -140,5 +140,16 @@ fn lay(case: &OpenCase, place: Place, m: u64, out: &mut [u8], at: u64) -> Result
             Ok(true)
         }
         Place::Refused(refusal) => Err(refusal),
+    }
+}
+
+// Bytes over a room as long.
+fn copy(room: &mut [u8], bytes: &[u8])
+    requires { length bytes.now ≡ length room.old }
+    ensures { room.new ≡ bytes.now }
+{
+    // By index: `copy_from_slice` would need memmove of the C library.
+    for i in 0..room.len() {
+        room[i] = bytes[i];
     }
 }

@@ -13,7 +13,7 @@ returns-in-Image c =
     let inside = rw c.in-Image.is at c.requires in
     let file = drop c.in-Image.o args.case.now.image.now in
     let long : args.m ≤ length file = rw length-drop (omega (arith, inside)) in
-    rw (c.in-Image.is, c.copy_from_slice.ensures.after, add-sub_cancel_left)
+    rw (c.in-Image.is, c.copy.ensures, add-sub_cancel_left)
     (record { answer = refl; buffer = laid args.out.now args.at args.m c.min-start.result c.min-end.result (omega arith) (omega arith) file long })
 
 pub returns-in-Pagefile : goal.returns-in-Pagefile
@@ -22,7 +22,7 @@ returns-in-Pagefile c =
     let inside = rw c.in-Pagefile.is at c.requires in
     let file = drop c.in-Pagefile.o args.case.now.pagefile.now in
     let long : args.m ≤ length file = rw length-drop (omega (arith, inside)) in
-    rw (c.in-Pagefile.is, c.copy_from_slice-in-Pagefile.ensures.after, add-sub_cancel_left)
+    rw (c.in-Pagefile.is, c.copy-in-Pagefile.ensures, add-sub_cancel_left)
     (record { answer = refl; buffer = laid args.out.now args.at args.m c.min-start.result c.min-end.result (omega arith) (omega arith) file long })
 
 pub returns-in-Zeros : goal.returns-in-Zeros
