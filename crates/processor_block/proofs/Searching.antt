@@ -64,6 +64,19 @@ module _ (w : World) where
   pub search_begins : (from : ℕ) → Searching from (div_ceil from 8)
   search_begins from = record { rest = first_word from }
 
+  -- at word i the first block from there on is the first from its offset on
+  pub begins_at : (i : ℕ) → Searching (8 * i) i
+  begins_at i = record { rest = unfold block_from in refl }
+
+  pub onward : {from i : ℕ} → Searching from i → block_from w from ≡ block_from w (8 * i)
+  onward q = q.rest ∙ unfold block_from in refl
+
+  pub found_on : {from i : ℕ} → Searching from i → {r : Answer} → r ≡ block_from w (8 * i) → r ≡ block_from w from
+  found_on q e = e ∙ sym (onward q)
+
+  pub none_of_four : {from i : ℕ} → Searching from i → block_from w (8 * i) ≡ block_from w (8 * (i + 4)) → Searching from (i + 4)
+  none_of_four {from} {i} q e = record { rest = onward q ∙ e ∙ (begins_at (i + 4)).rest }
+
   module _ {from i : ℕ} (q : Searching from i) where
     passed : is_block w (8 * i) ≡ false → Searching from (i + 1)
     passed h = record { rest = q.rest ∙ next_word (length w.image) i h }

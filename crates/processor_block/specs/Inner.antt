@@ -23,6 +23,11 @@ Passes image i n r = r ≡ false → NoneFit image i (i + n)
 unfoldable pub block_at : World → ℕ → Option Answer
 block_at w o = if is_block w o then Some (record { number = 1; offset = o; entries = length (self_walk w o).trace }) else None
 
+-- the first block from word i on: among four words, or else the first from the fifth on
+abbrev pub FirstOfFour : World → ℕ → Option Answer → Type 0
+FirstOfFour w i (Some a) = a ≡ block_from w (8 * i)
+FirstOfFour w i None = block_from w (8 * i) ≡ block_from w (8 * (i + 4))
+
 -- what a search found, or what is at fault, as an answer
 abbrev pub answer_of : Result Answer Fault → Answer
 answer_of (Ok a) = a

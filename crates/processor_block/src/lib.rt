@@ -6,7 +6,7 @@ ghost use Rattle.resolution.specs.Open.{open_world};
 ghost use Rattle.case.specs.Case.{case_of};
 ghost use Rattle.processor_block.specs.Block.{is_at};
 ghost use Rattle.processor_block.specs.Call.{BlockAnswer};
-ghost use Rattle.processor_block.specs.Inner.{answer_of, block_at, block_in, Passes};
+ghost use Rattle.processor_block.specs.Inner.{answer_of, block_at, block_in, FirstOfFour, Passes};
 
 mod candidate;
 
@@ -56,10 +56,8 @@ fn search(case: OpenCase, from: u64) -> Result<Answer, Fault>
     for four in 0..words.saturating_sub(first + 7).div_ceil(4) {
         let i = first + 4 * four;
         if has_pair(case.image, i) {
-            for word in i..i + 4 {
-                if let Some(answer) = pages.block_at(8 * word) {
-                    return Ok(answer);
-                }
+            if let Some(answer) = pages.block_of_four(i) {
+                return Ok(answer);
             }
         }
     }
@@ -85,6 +83,20 @@ fn is_pair(image: &[u8], i: u64) -> bool
 }
 
 impl WholePages<'_> {
+    // The answer for the first of the four words from the i-th on that holds a block. Out of line: so the loop over the image keeps its places in registers.
+    #[inline(never)]
+    fn block_of_four(&self, i: u64) -> Option<Answer>
+        requires { (8 * i + 32 ≤ length self.now.case.image.now) × (8 * i + 32 < 0x10000000000000000) }
+        ensures { FirstOfFour (open_world self.now.case) i result }
+    {
+        for word in i..i + 4 {
+            if let Some(answer) = self.block_at(8 * word) {
+                return Some(answer);
+            }
+        }
+        None
+    }
+
     // The answer for an offset, if it holds a block: number 1, and the entries read for its Self.
     fn block_at(&self, offset: u64) -> Option<Answer>
         requires { (offset < length self.now.case.image.now) × (offset % 8 ≡ 0) }

@@ -6,6 +6,3 @@ use Rattle.processor_block.proofs.search.Given as goal
 
 abbrev pub invariant-loop-four : goal.invariant-loop-four
 invariant-loop-four l = Searching (open_world l.case) l.from (l.first + 4 * l.four)
-
-abbrev pub invariant-loop-word : goal.invariant-loop-word
-invariant-loop-word l = Searching (open_world l.case) l.from l.word
