@@ -16,6 +16,11 @@ const SIZES: u64 = 0x200;
 
 const BIT_16: u64 = 0x10000;
 
+const BIT_25: u64 = 0x2000000;
+
+// BlockSize 1, where it lies in the word.
+const ONE_BLOCK: u64 = BIT_16;
+
 // Bits 7, 15 and 23 of the tag, which is bits 32-63 of the word.
 const TAG_BITS: u64 = 0x80808000000000;
 
@@ -103,11 +108,12 @@ impl WholePages<'_> {
     }
 }
 
-// Are the tag and the BlockSize of a word those of a header?
+// Are the tag and the BlockSize of a word those of a header? One range asks for both: so they compile to one test.
 fn may_begin(word: u64) -> bool
     ensures { result ≡ may_begin word }
 {
-    word & TAG_BITS == 0 && 1 <= block_size(word)
+    let field = word & (TAG_BITS | (BIT_25 - 1));
+    ONE_BLOCK <= field && field < BIT_25
 }
 
 fn previous_size(word: u64) -> u64

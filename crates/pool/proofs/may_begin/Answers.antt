@@ -1,11 +1,10 @@
--- The tag's bits by their places in the word, then the BlockSize.
-use mathlib.Core.Path.{sym, ◌∙◌}
-use borrow.Author.Tests.{ne_eqb}
-use Rattle.pool.proofs.Beginning.{by_size, tag_bit_set}
+-- Under the mask: below a BlockSize of 1 nothing begins; above the BlockSize a bit of the tag is set.
+use native.Mathlib.Omega.{arith}
+use Rattle.pool.proofs.Beginning.{in_field, below_field}
 use Rattle.pool.proofs.may_begin.Goals as goal
 
-pub returns-then-word-eq0 : goal.returns-then-word-eq0
-returns-then-word-eq0 c = rw c.block_size.ensures (by_size c.args.word c.if-word-eq0.true)
+pub returns-then-field-ge-ONE_BLOCK : goal.returns-then-field-ge-ONE_BLOCK
+returns-then-field-ge-ONE_BLOCK c = in_field c.args.word (omega arith)
 
-pub returns-else-word-eq0 : goal.returns-else-word-eq0
-returns-else-word-eq0 c = ne_eqb _ 0 c.if-word-eq0.false ∙ sym (tag_bit_set c.args.word c.if-word-eq0.false)
+pub returns-else-field-ge-ONE_BLOCK : goal.returns-else-field-ge-ONE_BLOCK
+returns-else-field-ge-ONE_BLOCK c = below_field c.args.word (omega arith)
