@@ -12,12 +12,12 @@ pub loop-four-init : goal.loop-four-init
 loop-four-init c = at_word _ (omega (arith, c.div_ceil-first.ensures)) (search_begins _ c.args.from)
 
 pub returns-in-Some : goal.returns-in-Some
-returns-in-Some c = found_on _ c.loop-four.invariant (rw c.in-Some.is at c.block_of_four.ensures) ∙ served_block _ _ _ _ c.four_levels_case.ensures _ c.in_ok-case.was
+returns-in-Some c = found_on _ (at_word _ (omega arith) c.loop-four.invariant) (rw c.in-Some.is at c.block_of_four.ensures) ∙ served_block _ _ _ _ c.four_levels_case.ensures _ c.in_ok-case.was
 
 pub loop-four-preserved : goal.loop-four-preserved
 loop-four-preserved c =
     elim c.if-has_pair.branch [
-      | then-has_pair+in_default w ↦ at_word _ (omega arith) (none_of_four _ c.loop-four.invariant (rw w.in_default.is at w.block_of_four.ensures))
+      | then-has_pair+in_default w ↦ at_word _ (omega arith) (none_of_four _ (at_word _ (omega arith) c.loop-four.invariant) (rw w.in_default.is at w.block_of_four.ensures))
       | else-has_pair w ↦ at_word _ (omega arith) (none_between _ c.loop-four.invariant (c.has_pair.ensures w.if-has_pair.false))
     ]
 
