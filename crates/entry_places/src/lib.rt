@@ -12,6 +12,7 @@ use walk::Place;
 
 // Where an entry leads by itself, for an address. Rows and files go apart: the case that holds them stands above (`resolution`).
 #[tactic(auto, unfolding(walk::specs::Walk::settle_of))]
+#[inline(always)]
 pub fn settle(rows: &[u64], image: &[u8], pagefile: &[u8], address: u64, rest: EntryPlace) -> Place
     ensures { result ≡ settle_of (rows_page rows.now (length image.now)) (length pagefile.now) address rest }
 {

@@ -16,6 +16,7 @@ use walk::Descent;
 const PLACES: u64 = 128;
 
 // Down the tables of an address space. Each mode has its own copy of the walk, with the numbers of its rows as constants.
+#[inline(always)]
 pub fn descend(rows: &[u64], image: &[u8], space: AddressSpace, address: u64) -> Descent
     ensures { result ≡ descent_of (descended (rows_world rows.now space image.now []) address) }
 {
