@@ -32,7 +32,7 @@ pub fn descend(rows: &[u64], image: &[u8], space: AddressSpace, address: u64) ->
     }
 }
 
-// From the top table, which begins at `start` in its page: a table a turn, with `below` levels below it.
+// From the top table, which begins at `start` in its page: a table a turn, with `below` levels below it, then the last.
 #[inline(always)]
 fn descend_from(
     rows: &[u64],
@@ -51,15 +51,11 @@ fn descend_from(
     let mut offset = start;
     let mut below = levels::levels_below(mode);
     let mut entries = 0;
-    loop {
+    while 0 < below {
         let Some(e) = table_entry(image, mode, below, offset, table, address) else {
-            let in_no_run = Leaf::Settled(EntryPlace::Refused(Refusal::FrameInNoRun));
-            return ended(in_no_run, entries);
+            return no_table(entries);
         };
         entries += 1;
-        if below == 0 {
-            return ended(last_entries::last_entry(mode, e), entries);
-        }
         match upper_entries::upper_entry(levels::level_at(mode, below), e) {
             Upper::Table(f) => {
                 table = frames::locate(rows, image.len() as u64, f);
@@ -77,6 +73,10 @@ fn descend_from(
             }
         }
     }
+    let Some(e) = table_entry(image, mode, 0, offset, table, address) else {
+        return no_table(entries);
+    };
+    ended(last_entries::last_entry(mode, e), entries + 1)
 }
 
 // The entry for an address in a table, if the table's frame is in a run.
@@ -114,4 +114,12 @@ fn ended(leaf: Leaf, entries: u64) -> Descent
     ensures { result ≡ ended_after entries leaf }
 {
     Descent { leaf, entries }
+}
+
+// A table's frame is in no run.
+fn no_table(entries: u64) -> Descent
+    ensures { result ≡ no_table entries }
+{
+    let in_no_run = Leaf::Settled(EntryPlace::Refused(Refusal::FrameInNoRun));
+    ended(in_no_run, entries)
 }

@@ -2,8 +2,8 @@
 use Rattle.walk.proofs.Loop.{Going}
 use Rattle.tables.proofs.descend_from.Given as goal
 
-abbrev pub invariant-loop-e : goal.invariant-loop-e
-invariant-loop-e l = Going l.mode l.rows l.image l.initial.table l.address l.offset l.table l.below l.entries
+abbrev pub invariant-loop-below : goal.invariant-loop-below
+invariant-loop-below l = Going l.mode l.rows l.image l.initial.table l.address l.offset l.table l.below l.entries
 
-abbrev pub decreases-loop-e : goal.decreases-loop-e
-decreases-loop-e l = l.below
+abbrev pub decreases-loop-below : goal.decreases-loop-below
+decreases-loop-below l = l.below
