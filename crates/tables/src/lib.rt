@@ -2,7 +2,7 @@
 #![tactic(auto)]
 
 ghost use Rattle.std.specs.Prelude.{◌≡◌, ◌*◌, ◌≤◌, ◌<◌, length, []};
-ghost use Rattle.entry.specs.Entry.{level_of, levels_below, top_offset};
+ghost use Rattle.entry.specs.Entry.{level_of, levels_below, top_offset, upper_of};
 ghost use Rattle.frames.specs.Rows.{rows_page};
 ghost use Rattle.walk.specs.Walk.{descend_of, descended};
 ghost use Rattle.walk.specs.Rows.{rows_world, TableInside, FitsAt, InTable, Shaped, entry_read, descent_of, ended_after, no_table};
@@ -17,6 +17,7 @@ const PLACES: u64 = 128;
 
 // Down the tables of an address space. Each mode has its own copy of the walk, with the numbers of its rows as constants.
 #[inline(always)]
+#[tactic(auto, using(walk::proofs::Descending::rows_inside, walk::proofs::Cycle::four_fits, walk::proofs::Cycle::plain_fits, walk::proofs::Cycle::pae_fits))]
 pub fn descend(rows: &[u64], image: &[u8], space: AddressSpace, address: u64) -> Descent
     ensures { result ≡ descent_of (descended (rows_world rows.now space image.now []) address) }
 {
@@ -56,7 +57,7 @@ fn descend_from(
             return no_table(entries);
         };
         entries += 1;
-        match upper_entries::upper_entry(levels::level_at(mode, below), e) {
+        match upper_at(mode, below, e) {
             Upper::Table(f) => {
                 table = frames::locate(rows, image.len() as u64, f);
                 offset = 0;
@@ -77,6 +78,13 @@ fn descend_from(
         return no_table(entries);
     };
     ended(last_entries::last_entry(mode, e), entries + 1)
+}
+
+// What an entry of a table with `below` levels below it says.
+fn upper_at(mode: PagingMode, below: u64, e: u64) -> Upper
+    ensures { result ≡ upper_of (level_of mode below) e }
+{
+    upper_entries::upper_entry(levels::level_at(mode, below), e)
 }
 
 // The entry for an address in a table, if the table's frame is in a run.
