@@ -1,5 +1,5 @@
 -- What the inner functions of the lookup answer.
-use Rattle.std.specs.Prelude.{ℕ, ◌-◌, not, ◌&&◌, List, ltb, leb, eqb, length, if◌then◌else◌, Result, Ok, Err}
+use Rattle.std.specs.Prelude.{ℕ, ◌-◌, not, List, leb, eqb, length, if◌then◌else◌, Result, Ok, Err}
 use Rattle.base.specs.Refusal.{unplaced}
 use Rattle.base.specs.declared.Fault.{Fault}
 use Rattle.base.specs.declared.Refusal.{Refusal}
@@ -7,7 +7,7 @@ use Rattle.base.specs.declared.Refusal.TheVariants.{TrailingBytes, NotCanonical,
 use Rattle.varint.specs.Reader.{Read, got, refused}
 use Rattle.entry.specs.Addresses.{canonical}
 use Rattle.entry.specs.Pages.{virtual_page_of}
-use Rattle.map_format.specs.Extents.{mapped_page, page_after, page_at}
+use Rattle.map_format.specs.Extents.{page_at}
 use Rattle.map_format.specs.Reading.{Map}
 use Rattle.map_format.specs.declared.Extent.{Extent}
 use Rattle.map_format.specs.declared.Header.{Header}
@@ -15,9 +15,9 @@ use Rattle.map_format.specs.declared.MappedPage.{MappedPage}
 use Rattle.lookup.specs.Call.{answer_at, in_range}
 use Rattle.lookup.specs.declared.Found.{Found}
 
--- the answer so far, with the extent e after `done` pages
-unfoldable pub note_of : MappedPage → ℕ → ℕ → Extent → MappedPage
-note_of old done k e = if leb done k && ltb (k - done) e.pages then mapped_page e.code (page_after e.code (k - done) e.first) else old
+-- an extent and a page's place in it: those of page k so far, with the extent e after `done` pages; those behind page k change nothing
+unfoldable pub extent_noted : Extent × ℕ → ℕ → ℕ → Extent → Extent × ℕ
+extent_noted old done k e = if leb done k then (e, k - done) else old
 
 -- page k of the extents that were read, if no byte stands after them
 abbrev pub page_of_read : List ℕ → ℕ → Read (List Extent) → Result MappedPage Fault

@@ -4,9 +4,8 @@
 ghost use Rattle.std.specs.Prelude.{◌≡◌, ◌<◌, ◌^◌, IfOk};
 ghost use Rattle.map_format.specs.Extents.{no_extent};
 ghost use Rattle.map_format.specs.Reading.{extents_from, map_fields};
-ghost use Rattle.map_format.specs.Inner.{FieldsInLimits};
 ghost use Rattle.lookup.specs.Call.{fault_found, answer_at, in_range, LookupAnswer};
-ghost use Rattle.lookup.specs.Inner.{note_of, page_of_read, asked_of, found_in};
+ghost use Rattle.lookup.specs.Inner.{extent_noted, page_of_read, asked_of, found_in};
 
 use base::{Fault, PAGE_BYTES, Refusal};
 use entry::VirtualPage;
@@ -100,16 +99,18 @@ fn read_page(s: &[u8], from: usize, count: u64, k: u64) -> Result<MappedPage, Fa
     let mut at = from;
     let mut left = count;
     let mut prev = Extent::NONE;
-    // `page_at` of no extent (map_format/specs/Extents.antt), until the extent of page k has been read.
-    let mut page = MappedPage { code: 0, file: 0 };
+    // Page k is in the last extent that begins at or before it, for no page is left out between two.
+    let mut noted = (Extent::NONE, 0);
     // The loop goes by the pages that are left: an extent ends where its last field has been read.
     while 0 < left {
         let (e, next) = map_format::read_extent(s, at, left, prev)?;
-        page = note(page, count - left, k, e);
+        noted = note(noted, count - left, k, e);
         left -= e.pages;
         prev = e;
         at = next;
     }
+    let (extent, n) = noted;
+    let page = extent.page(n);
     if at != s.len() {
         return Err(Refusal::TrailingBytes.into());
     }
@@ -117,13 +118,12 @@ fn read_page(s: &[u8], from: usize, count: u64, k: u64) -> Result<MappedPage, Fa
 }
 
 // The answer so far, with an extent after `done` pages.
-#[tactic(auto, unfolding(crate::specs::Inner::note_of))]
-fn note(old: MappedPage, done: u64, k: u64, e: Extent) -> MappedPage
-    requires { FieldsInLimits e }
-    ensures { result ≡ note_of old done k e }
+#[tactic(auto, unfolding(crate::specs::Inner::extent_noted))]
+fn note(old: (Extent, u64), done: u64, k: u64, e: Extent) -> (Extent, u64)
+    ensures { result ≡ extent_noted old done k e }
 {
     match k.checked_sub(done) {
-        Some(n) if n < e.pages => e.page(n),
-        _ => old,
+        Some(n) => (e, n),
+        None => old,
     }
 }

@@ -55,7 +55,7 @@ pub fn read_bytes(
     }
 }
 
-// The same for a call of our own: whether a byte came from a page of zeros, or what is at fault.
+// The same without the numbers: whether a byte came from a page of zeros, or what is at fault.
 pub fn read_case(
     sheet: &[u8],
     image: &[u8],

@@ -8,7 +8,7 @@ ghost use Rattle.walk.specs.Walk.{descend_of, descended};
 ghost use Rattle.walk.specs.Rows.{rows_world, TableInside, FitsAt, InTable, Shaped, entry_read, descent_of, ended_after, no_table};
 
 use base::{PAGE_BYTES, Refusal};
-use entry::{EntryPlace, Leaf, Level, PagingMode, Upper};
+use entry::{EntryPlace, Frame, Leaf, Level, PagingMode, Upper};
 use sheet::AddressSpace;
 use walk::Descent;
 
@@ -17,11 +17,11 @@ const PLACES: u64 = 128;
 
 // Down the tables of an address space. Each mode has its own copy of the walk, with the numbers of its rows as constants.
 #[inline(always)]
-#[tactic(auto, using(walk::proofs::Descending::rows_inside, walk::proofs::Cycle::four_fits, walk::proofs::Cycle::plain_fits, walk::proofs::Cycle::pae_fits))]
+#[tactic(auto, using(walk::proofs::Cycle::four_fits, walk::proofs::Cycle::plain_fits, walk::proofs::Cycle::pae_fits))]
 pub fn descend(rows: &[u64], image: &[u8], space: AddressSpace, address: u64) -> Descent
     ensures { result ≡ descent_of (descended (rows_world rows.now space image.now []) address) }
 {
-    let top = frames::locate(rows, image.len() as u64, space.directory);
+    let top = space.directory;
     match space.mode {
         PagingMode::FourLevel => descend_from(rows, image, PagingMode::FourLevel, 0, top, address),
         PagingMode::Plain => descend_from(rows, image, PagingMode::Plain, 0, top, address),
@@ -35,20 +35,20 @@ pub fn descend(rows: &[u64], image: &[u8], space: AddressSpace, address: u64) ->
 
 // From the top table, which begins at `start` in its page: a table a turn, with `below` levels below it, then the last.
 #[inline(always)]
+#[tactic(auto, using(walk::proofs::Descending::rows_inside))]
 fn descend_from(
     rows: &[u64],
     image: &[u8],
     mode: PagingMode,
     start: u64,
-    top: Option<u64>,
+    top: Frame,
     address: u64,
 ) -> Descent
-    requires inside { TableInside image.now top }
     requires begins { start ≡ top_offset mode }
     requires fits { FitsAt (top_offset mode) (level_of mode (levels_below mode)) }
-    ensures { result ≡ descent_of (descend_of mode (levels_below mode) (rows_page rows.now (length image.now)) image.now (top_offset mode) top address) }
+    ensures { result ≡ descent_of (descend_of mode (levels_below mode) (rows_page rows.now (length image.now)) image.now (top_offset mode) (rows_page rows.now (length image.now) top) address) }
 {
-    let mut table = top;
+    let mut table = frames::locate(rows, image.len() as u64, top);
     let mut offset = start;
     let mut below = levels::levels_below(mode);
     let mut entries = 0;

@@ -2,7 +2,7 @@
 use Rattle.std.proofs.Common.{rules, ◌≡◌, Err, arith}
 use Rattle.varint.proofs.Fields.{value_got, refused_bad}
 use Rattle.map_format.proofs.OneExtent.{extent_keeps}
-use Rattle.lookup.proofs.ManyExtents.{starts, no_extent_read, again, trailing, answered}
+use Rattle.lookup.proofs.ManyExtents.{starts, no_extent_read, again, trailing, answered, holds, held_below}
 use Rattle.lookup.proofs.read_page.Goals as goal
 
 pub loop-left-init : goal.loop-left-init
@@ -16,9 +16,6 @@ returns-in_err-e-clause-same c =
 pub overflow_sub-count : goal.overflow_sub-count
 overflow_sub-count c = c.loop-left.invariant.part
 
-pub note-page-requires : goal.note-page-requires
-note-page-requires c = (extent_keeps _ _ _ _ _ _ (value_got _ _ _ _ c.read_extent.ensures c.in_ok-e.was)).rules.fields
-
 pub overflow_sub-left : goal.overflow_sub-left
 overflow_sub-left c = (extent_keeps _ _ _ _ _ _ (value_got _ _ _ _ c.read_extent.ensures c.in_ok-e.was)).most
 
@@ -28,10 +25,13 @@ loop-left-smaller c = omega (arith, (extent_keeps _ _ _ _ _ _ (value_got _ _ _ _
 pub loop-left-preserved : goal.loop-left-preserved
 loop-left-preserved c =
     let taken = value_got _ _ _ _ c.read_extent.ensures c.in_ok-e.was in
-    rw c.note-page.ensures (again c.loop-left.invariant (omega arith) _ _ taken)
+    rw c.note-noted.ensures (again c.loop-left.invariant (omega arith) _ _ taken)
 
 pub returns-then-at-s-clause-same : goal.returns-then-at-s-clause-same
 returns-then-at-s-clause-same c = rw c.into.ensures (trailing c.loop-left.invariant (omega arith) c.if-at-s.true)
 
 pub returns-clause-same : goal.returns-clause-same
-returns-clause-same c = answered c.loop-left.invariant (omega arith) c.if-at-s.false c.requires
+returns-clause-same c = rw c.page-page.ensures (answered c.loop-left.invariant (omega arith) c.requires c.if-at-s.false)
+
+pub returns-clause-low : goal.returns-clause-low
+returns-clause-low c = rw c.page-page.ensures (held_below _ (holds c.loop-left.invariant (omega arith) c.requires))

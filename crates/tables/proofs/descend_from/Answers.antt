@@ -8,7 +8,7 @@ pub returns-in_default : goal.returns-in_default
 returns-in_default c = rw c.no_table.ensures (stopped c.loop-below.invariant (no_entry _ (level_of c.args.mode c.loop-below.below) _ _ _ _ c.table_entry.ensures c.in_default.is))
 
 pub loop-below-preserved : goal.loop-below-preserved
-loop-below-preserved c = again c.loop-below.invariant c.loop-below-test.true _ (an_entry _ _ _ _ _ _ _ c.table_entry.ensures c.in-Some.is) _ _ (sym c.upper_at.ensures ∙ c.in-Table.is) c.locate-table.ensures
+loop-below-preserved c = again c.loop-below.invariant c.loop-below-test.true _ (an_entry _ _ _ _ _ _ _ c.table_entry.ensures c.in-Some.is) _ _ (sym c.upper_at.ensures ∙ c.in-Table.is) c.locate-table-in-Table.ensures
 
 pub returns-in-LargePage : goal.returns-in-LargePage
 returns-in-LargePage c =
