@@ -15,7 +15,7 @@ use Rattle.map_format.specs.declared.MappedPage.{MappedPage}
 use Rattle.lookup.specs.Call.{answer_at, in_range}
 use Rattle.lookup.specs.declared.Found.{Found}
 
--- an extent and a page's place in it: those of page k so far, with the extent e after `done` pages; those behind page k change nothing
+-- the last extent that begins at or before page k, and the page's place in it, with the extent e after `done` pages
 unfoldable pub extent_noted : Extent × ℕ → ℕ → ℕ → Extent → Extent × ℕ
 extent_noted old done k e = if leb done k then (e, k - done) else old
 

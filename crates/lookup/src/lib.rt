@@ -117,7 +117,7 @@ fn read_page(s: &[u8], from: usize, count: u64, k: u64) -> Result<MappedPage, Fa
     Ok(page)
 }
 
-// The answer so far, with an extent after `done` pages.
+// The last extent that begins at or before page k, and the page's place in it, with an extent after `done` pages.
 #[tactic(auto, unfolding(crate::specs::Inner::extent_noted))]
 fn note(old: (Extent, u64), done: u64, k: u64, e: Extent) -> (Extent, u64)
     ensures { result ≡ extent_noted old done k e }
